@@ -1,9 +1,10 @@
 -- Blocks one after another.
 use Rattle.std.proofs.Common.{◌≡◌, ℕ, zero, suc, ◌+◌, ◌*◌, ◌<◌, List, [], ◌++◌, length, take, drop}
-use Rattle.std.proofs.Common.{get_or, take-add, ap, sym, ◌∙◌, arith}
+use Rattle.std.proofs.Common.{get_or, map, take-add, ap, sym, ◌∙◌, arith}
 use Rattle.std.specs.List.{flat_map}
 use Rattle.std.specs.Simd.{first_chunks}
-use Rattle.std.proofs.lemmas.List.{take_more, flat_map_more}
+use Rattle.std.proofs.lemmas.List.{take_more, flat_map_more, append_assoc}
+use Rattle.std.proofs.lemmas.List.{map-append}
 
 module _ {X : Type 0} where
   -- they are the front that was cut into them
@@ -24,3 +25,16 @@ module _ {X : Type 0} where
   joined_more bs i d l =
       ap (flat_map (λ b. b)) (take_more bs i d l)
       ∙ sym (flat_map_more (λ b. b) [] (take i bs) (get_or bs i d))
+
+-- what is made of one block more, behind something else
+pub mapped_more : {X Y : Type 0} (f : X → Y) (ys : List Y) (bs : List (List X)) (i : ℕ) (b : List X)
+    → i < length bs → b ≡ get_or bs i b
+    → (ys ++ map f (flat_map (λ b. b) (take i bs))) ++ map f b
+    ≡ ys ++ map f (flat_map (λ b. b) (take (i + 1) bs))
+mapped_more f ys bs i b l e =
+    let front = flat_map (λ b. b) (take i bs) in
+    append_assoc ys (map f front) (map f b)
+    ∙ ap (λ zs. ys ++ zs)
+    (sym (map-append f front b)
+    ∙ ap (λ xs. map f (front ++ xs)) e
+    ∙ ap (map f) (sym (joined_more bs i b l)))

@@ -1,4 +1,5 @@
 pub mod ExtremeLaws
+mod ExtremeParts
 mod BlockLaws
 mod PackedLaws
 mod TruthLaws

@@ -1,6 +1,6 @@
 -- The extreme of numbers that fit an i64, each of a group of bytes.
 use Rattle.std.specs.Prelude.{◌≡◌, ℕ, ◌<◌, ℤ, pos, neg_ℤ, ◌+ℤ◌, ◌*ℤ◌, List, length, map, get_or}
-use Rattle.std.specs.Prelude.{Option, Some, None, if◌then◌else◌}
+use Rattle.std.specs.Prelude.{Option, Some, None, false, if◌then◌else◌}
 use Rattle.awk_numbers.specs.Folds.{beats, first_extreme}
 use Rattle.awk_numbers.specs.declared.extremes.Extreme.{Extreme}
 use Rattle.awk_numbers.specs.declared.extremes.Extreme.TheVariants.{Least, Greatest}
@@ -24,6 +24,13 @@ pub record IsBest (how : Extreme) (f : List ℕ → ℤ) (gs : List (List ℕ)) 
 abbrev pub number_or_zero : List ℤ → Option ℕ → ℤ
 number_or_zero zs None = pos 0
 number_or_zero zs (Some k) = get_or zs k (pos 0)
+
+-- one of the numbers, which none beats
+pub record IsExtreme (how : Extreme) (zs : List ℤ) (z : ℤ) : Type 0 where
+  pub place : ℕ
+  pub inside : place < length zs
+  pub found : get_or zs place (pos 0) ≡ z
+  pub bound : (k : ℕ) → k < length zs → beats how (get_or zs k (pos 0)) z ≡ false
 
 -- ---- a number and its place in one
 

@@ -4,7 +4,8 @@ use Rattle.std.specs.Int.{w32, cast_signed as to_z, cast_unsigned as of_z}
 use Rattle.std.proofs.lemmas.Int.{to_z-of_z}
 use Rattle.std.proofs.lemmas.List.{length-map}
 use Rattle.awk_numbers.proofs.ExtremeLaws.{first_alone}
-use Rattle.awk_cells.proofs.ExtremeLaws.{HasFirst, number_more, number_found}
+use Rattle.awk_cells.proofs.ExtremeLaws.{HasFirst, number_more}
+use Rattle.awk_cells.proofs.ExtremeParts.{extreme_read}
 use Rattle.awk_cells.proofs.short.short_in.Goals as goal
 
 pub loop-i-init : goal.loop-i-init
@@ -41,4 +42,4 @@ returns g c =
     let zs = map g.C.Cell.number gs in
     let end : length zs ≤ c.loop-i.i =
     omega (arith, c.loop-i-test.false, length-map gs g.C.Cell.number) in
-    number_found g.S.Side.how zs c.loop-i.i (to_z w32 c.loop-i.best-bits) end c.loop-i.invariant
+    extreme_read g.S.Side.how zs c.loop-i.i (to_z w32 c.loop-i.best-bits) end c.loop-i.invariant
