@@ -1,9 +1,10 @@
-//! How many numbers are not 0, and how many bytes, these counted in blocks.
-ghost use Rattle.std.specs.Prelude.{◌≡◌, ◌==◌, ◌≤◌, cond, length, map, not};
-ghost use Rattle.std.specs.List.{sum_by, count_by};
+//! How many numbers are not 0, and how many bytes, counted in blocks.
+ghost use Rattle.std.specs.Prelude.{◌≡◌, ◌==◌, ◌≤◌, ◌+◌, cond, length, map, not};
+ghost use Rattle.std.specs.List.{sum_by, count_by, flat_map};
 ghost use Rattle.awk_kernels.specs.Kernels.{count_true};
 ghost use Rattle.awk_lanes.specs.Numbers.{is_nonzero};
 
+use crate::blocks::has_blocks;
 use crate::cells::Cell;
 use crate::truths::is_zero_at;
 
@@ -82,15 +83,51 @@ fn one_if_true(told: bool) -> u32
     if told { 1 } else { 0 }
 }
 
-/// How many numbers are not 0: all but those that are 0, which are counted in 32 bits.
+/// How many numbers are 0, counted in 32 bits, one after another.
 #[inline(always)]
-pub fn nonzero_in<const W: usize, C: Cell<W>>(groups: &[[u8; W]]) -> u64
+fn zeros_in<const W: usize, C: Cell<W>>(groups: &[[u8; W]]) -> u32
     requires few { length groups.now ≤ 1073741824 }
-    ensures { result ≡ count_by is_nonzero (map C.number groups.now) }
+    ensures { result + count_by is_nonzero (map C.number groups.now) ≡ length groups.now }
 {
     let mut zeros: u32 = 0;
     for i in 0..groups.len() {
         zeros += one_if_true(is_zero_at::<W, C>(groups, i));
     }
-    groups.len() as u64 - u64::from(zeros)
+    zeros
+}
+
+/// How many numbers of blocks are 0.
+#[inline(always)]
+fn zeros_in_blocks<const W: usize, C: Cell<W>>(blocks: &[[[u8; W]; 8]]) -> u32
+    requires few { length blocks.now ≤ 134217728 }
+    ensures { let gs = flat_map (λ b. b) blocks.now in
+        result + count_by is_nonzero (map C.number gs) ≡ length gs }
+{
+    let mut zeros: u32 = 0;
+    for i in 0..blocks.len() {
+        zeros += zeros_in::<W, C>(&blocks[i]);
+    }
+    zeros
+}
+
+/// How many numbers are 0, in blocks of eight as far as they go where that pays.
+#[inline(always)]
+fn zeros_in_all<const W: usize, C: Cell<W>>(groups: &[[u8; W]]) -> u32
+    requires few { length groups.now ≤ 1073741824 }
+    ensures { result + count_by is_nonzero (map C.number groups.now) ≡ length groups.now }
+{
+    if !has_blocks::<W>(groups.len()) {
+        return zeros_in::<W, C>(groups);
+    }
+    let (blocks, rest) = groups.as_chunks::<8>();
+    zeros_in_blocks::<W, C>(blocks) + zeros_in::<W, C>(rest)
+}
+
+/// How many numbers are not 0: all but those that are 0.
+#[inline(always)]
+pub fn nonzero_in<const W: usize, C: Cell<W>>(groups: &[[u8; W]]) -> u64
+    requires few { length groups.now ≤ 1073741824 }
+    ensures { result ≡ count_by is_nonzero (map C.number groups.now) }
+{
+    groups.len() as u64 - u64::from(zeros_in_all::<W, C>(groups))
 }

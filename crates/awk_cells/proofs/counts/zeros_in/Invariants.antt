@@ -1,7 +1,7 @@
 use Rattle.std.proofs.Common.{◌≡◌, ◌≤◌, ◌+◌, length, map, take}
 use Rattle.std.specs.List.{count_by}
 use Rattle.awk_lanes.specs.Numbers.{is_nonzero}
-use Rattle.awk_cells.proofs.counts.nonzero_in.Given as goal
+use Rattle.awk_cells.proofs.counts.zeros_in.Given as goal
 
 abbrev pub invariant-loop-i : goal.invariant-loop-i
 invariant-loop-i g l = record {

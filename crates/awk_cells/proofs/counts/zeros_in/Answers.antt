@@ -4,7 +4,7 @@ use Rattle.std.specs.List.{count_by}
 use Rattle.std.proofs.lemmas.List.{length-map, take_all}
 use Rattle.std.proofs.lemmas.List.Sums.{sum_by_more}
 use Rattle.awk_lanes.specs.Numbers.{is_nonzero}
-use Rattle.awk_cells.proofs.counts.nonzero_in.Goals as goal
+use Rattle.awk_cells.proofs.counts.zeros_in.Goals as goal
 
 -- a number is 0 or it is not
 one-of : (b : Bool) → cond (not b) 1 0 + cond b 1 0 ≡ 1
@@ -36,4 +36,4 @@ returns g c =
     let last : i ≡ length gs = omega (arith, c.loop-i-test.false, c.loop-i.invariant.within) in
     let end : length (map f gs) ≤ i = omega (arith, last, length-map gs f) in
     let all = ap (count_by is_nonzero) (take_all i (map f gs) end) in
-    omega (arith, c.from.ensures, c.loop-i.invariant.count, all, last)
+    omega (arith, c.loop-i.invariant.count, all, last)
