@@ -6,5 +6,6 @@ pub mod ArrayLaws
 pub mod ListNodes
 pub mod MovedNumbers
 pub mod OffsetLaws
+pub mod RowLaws
 pub mod ListTypes
 pub mod PresentItems

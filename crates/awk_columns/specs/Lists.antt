@@ -1,9 +1,9 @@
 -- Lists of one class, by their starts, stops and content.
-use Rattle.std.specs.Prelude.{◌≡◌, ℕ, ◌-◌, ◌<◌, ◌^◌, List, map, Some, None}
+use Rattle.std.specs.Prelude.{◌≡◌, ℕ, ◌+◌, ◌-◌, ◌<◌, ◌^◌, List, map, Some, None}
 use Rattle.std.specs.List.{range_with_len}
 use Rattle.awk_types.specs.Value.{Value, value_list}
 use Rattle.awk_lanes.specs.Column.{Column}
-use Rattle.awk_lanes.specs.Places.{size_of, place_at, AreSpans}
+use Rattle.awk_lanes.specs.Places.{size_of, at, place_at, AreSpans}
 use Rattle.awk_layout.specs.Layout.{Layout}
 use Rattle.awk_layout.specs.Valid.{len, IsValid}
 use Rattle.awk_layout.specs.Item.{run}
@@ -43,3 +43,7 @@ pub record AreLists (class : Class) (s t : Column) (y : Layout) : Type 0 where
 -- how many items list i has
 abbrev pub length_of : Listed → ℕ → ℕ
 length_of l i = span_length l.starts l.stops i
+
+-- each list begins where the one before it ends
+abbrev pub AreInRow : Column → Column → Type 0
+AreInRow s t = (i : ℕ) → i + 1 < size_of s → at s (i + 1) ≡ at t i

@@ -1,5 +1,6 @@
 //! Where lists lie, by their ends seen at once.
-ghost use Rattle.std.specs.Prelude.{◌≡◌, ◌+◌, ◌<◌, ◌≤◌, ◌^◌, IfOk};
+ghost use Rattle.std.specs.Prelude.{◌≡◌, ◌+◌, ◌<◌, ◌≤◌, ◌^◌, IfOk, IfSome};
+ghost use Rattle.awk_lanes.specs.Counted.{before};
 ghost use Rattle.awk_lanes.specs.Places.{size_of, place_at};
 ghost use Rattle.awk_layout.specs.Valid.{len};
 ghost use Rattle.awk_columns.specs.Lists.{AreLists, span_length};
@@ -70,6 +71,14 @@ impl<'r, 'a> Bounds<'r, 'a> {
         ensures lists { AreLists self.now.class self.now.starts self.now.stops self.now.content }
     {
         self.lists.content()
+    }
+
+    /// How many items all lists have, where each is known to begin where the one before it ends.
+    pub fn row_total<L: Ledger>(&self, steps: &mut Steps<L>) -> Option<u64>
+        ensures { let m = span_length self.now.starts self.now.stops in
+            IfSome result (λ total. total ≡ before m (size_of self.now.starts)) }
+    {
+        self.lists.row_total(steps)
     }
 
     /// How many items list i has.

@@ -1,13 +1,14 @@
 //! Lists of one class, as one value.
-ghost use Rattle.std.specs.Prelude.{◌≡◌, ◌<◌, ◌^◌, IfOk};
-ghost use Rattle.awk_lanes.specs.Places.{size_of};
+ghost use Rattle.std.specs.Prelude.{◌≡◌, ◌<◌, ◌^◌, IfOk, IfSome};
+ghost use Rattle.awk_lanes.specs.Counted.{before};
+ghost use Rattle.awk_lanes.specs.Places.{size_of, place_at, IsIndexKind};
 ghost use Rattle.awk_counts.specs.Counted.{spans};
 ghost use Rattle.awk_columns.specs.Joined.{IsJoined};
-ghost use Rattle.awk_columns.specs.Lists.{AreLists, span_length};
+ghost use Rattle.awk_columns.specs.Lists.{AreInRow, AreLists, span_length};
 ghost use Rattle.awk_columns.specs.Reached.{IsReached};
 
 use crate::joining::{all_items, join_lists};
-use awk_lanes::{Arena, Lane, Lengths, Steps, index_at};
+use awk_lanes::{Arena, Lane, Lengths, Steps, index_at, to_option_place};
 use awk_layout::Array;
 use awk_types::{Fault, NoMemory};
 use std::alloc::{AllocError, Global};
@@ -21,6 +22,7 @@ pub struct Lists<'a> {
     starts: Lane<'a>,
     stops: Lane<'a>,
     content: Array<'a>,
+    in_row: bool,
 }
 
 // Written out, so that whoever drops lists sees one call.
@@ -31,12 +33,22 @@ impl Drop for Lists<'_> {
             starts: _,
             stops: _,
             content,
+            in_row: _,
         } = self;
         let_go(content);
     }
 }
 
 fn let_go(_content: Array<'_>) {}
+
+/// The number at place i of a lane of starts or stops, or 0 where it is negative.
+fn end_in<L: Ledger>(lane: &Lane, i: u64, steps: &mut Steps<L>) -> u64
+    requires kind { IsIndexKind lane.now.kind }
+    requires within { i < size_of lane.now }
+    ensures { result ≡ place_at lane.now i }
+{
+    to_option_place(index_at(lane, i, steps)).unwrap_or(0)
+}
 
 /// Lists whose items lie one after another.
 #[derive(Drop)]
@@ -63,7 +75,11 @@ impl<'a> Model for Lists<'a> {
       content = x.content;
     } };
 
-    ghost invariant = { λ x. AreLists x.class x.starts x.stops x.content };
+    ghost use Rattle.std.specs.Prelude.{◌≡◌, true};
+    ghost use Rattle.awk_columns.specs.Lists.{AreInRow};
+
+    ghost invariant = { λ x. AreLists x.class x.starts x.stops x.content
+        × (x.in_row ≡ true → AreInRow x.starts x.stops) };
 }
 
 impl<'a> Lists<'a> {
@@ -87,6 +103,32 @@ impl<'a> Lists<'a> {
             starts,
             stops,
             content,
+            in_row: false,
+        }
+    }
+
+    /// The same, of which each is known to begin where the one before it ends.
+    pub fn in_row(
+        class: Option<u64>,
+        starts: Lane<'a>,
+        stops: Lane<'a>,
+        content: Array<'a>,
+    ) -> Lists<'a>
+        requires lists { AreLists class starts stops content }
+        requires row { AreInRow starts stops }
+        ensures { result ≡ record {
+          class = class;
+          starts = starts.entry;
+          stops = stops.entry;
+          content = content.entry;
+        } }
+    {
+        Lists {
+            class,
+            starts,
+            stops,
+            content,
+            in_row: true,
         }
     }
 
@@ -141,6 +183,24 @@ impl<'a> Lists<'a> {
         } else {
             (stop - start) as u64
         }
+    }
+
+    /// How many items all lists have, where each is known to begin where the one before it ends:
+    /// two numbers tell that, and no list is looked at.
+    pub fn row_total<L: Ledger>(&self, steps: &mut Steps<L>) -> Option<u64>
+        ensures { let m = span_length self.now.starts self.now.stops in
+            IfSome result (λ total. total ≡ before m (size_of self.now.starts)) }
+    {
+        if !self.in_row {
+            return None;
+        }
+        let n = self.starts.len();
+        if n == 0 {
+            return Some(0);
+        }
+        let first = end_in(&self.starts, 0, steps);
+        let last = end_in(&self.stops, n - 1, steps);
+        Some(last - first)
     }
 
     /// Their items one after another, however many they are.

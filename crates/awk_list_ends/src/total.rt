@@ -11,8 +11,8 @@ use awk_types::{ITEM_LIMIT, NoMemory};
 use std::alloc::Global;
 use std::sync::ledger::Ledger;
 
-/// Whether lists have together no more items than a limit.
-pub fn are_within(limit: u64, lists: &Bounds) -> bool
+/// Whether lists have together no more items than a limit, by a look at each.
+fn are_counted_within(limit: u64, lists: &Bounds) -> bool
     ensures within { let m = span_length lists.now.starts lists.now.stops in
         result ≡ true → before m (size_of lists.now.starts) ≤ limit }
     ensures beyond { let m = span_length lists.now.starts lists.now.stops in
@@ -29,6 +29,20 @@ pub fn are_within(limit: u64, lists: &Bounds) -> bool
     true
 }
 
+/// Whether lists have together no more items than a limit. Where they are known to lie in a row, no
+/// list is looked at.
+pub fn are_within<L: Ledger>(limit: u64, lists: &Bounds, steps: &mut Steps<L>) -> bool
+    ensures within { let m = span_length lists.now.starts lists.now.stops in
+        result ≡ true → before m (size_of lists.now.starts) ≤ limit }
+    ensures beyond { let m = span_length lists.now.starts lists.now.stops in
+        result ≡ false → limit < before m (size_of lists.now.starts) }
+{
+    match lists.row_total(steps) {
+        Some(total) => total <= limit,
+        None => are_counted_within(limit, lists),
+    }
+}
+
 /// Whether lists have together no more items than a column may have. They are counted, and none is
 /// moved.
 pub fn are_few<'a, L: Ledger>(
@@ -40,7 +54,7 @@ pub fn are_few<'a, L: Ledger>(
     ensures { IfOk result (AreFew lists.now.starts lists.now.stops lists.now.content) }
 {
     let bounds = Bounds::new(alloc, lists, arena, steps)?;
-    Ok(are_within(ITEM_LIMIT, &bounds))
+    Ok(are_within(ITEM_LIMIT, &bounds, steps))
 }
 
 /// Whether lists have more items together than what holds these: some lie over one another. They
@@ -55,7 +69,7 @@ pub fn lie_over_one_another<'a, L: Ledger>(
 {
     let n = lists.content().len();
     let bounds = Bounds::new(alloc, lists, arena, steps)?;
-    Ok(!are_within(n, &bounds))
+    Ok(!are_within(n, &bounds, steps))
 }
 
 /// How many items n lists of one size have, or none where they are more than a column may have.

@@ -25,6 +25,7 @@ use Rattle.awk_layout.proofs.ArrayItems.{length-array_items, get_or-array_items}
 use Rattle.awk_gather.specs.Arrays.{array_item}
 use Rattle.awk_columns.specs.ListClass.{Class, list_type}
 use Rattle.awk_columns.proofs.ArrayLaws.{run_in_list}
+use Rattle.awk_columns.proofs.RowLaws.{span_rises}
 use Rattle.awk_unify.specs.Carry.{Carry, carried}
 use Rattle.awk_layout.proofs.Runs.{run-moved}
 use Rattle.awk_merge_lists.specs.ListLevels.{cut, IsListLevel, AreListSides}
@@ -46,16 +47,6 @@ use Rattle.awk_merge_sides.proofs.SideLaws.{merged_items-all, total-within, tota
 -- what holds of each number below another and of each other number
 pub below_or : {P : Type 0} (i m : ℕ) → (i < m → P) → (m ≤ i → P) → P
 below_or {P} i m f g = elim (cases_lt i m) as (λ _. P) [ inl p ↦ f p | inr p ↦ g p ]
-
-span_rises : (n : ℕ) (a b : ℤ) → IsSpan n a b → nat_of a ≤ nat_of b
-span_rises n (pos k) (pos l) h = below_or l k (λ p.
-    let d : pos k ≢ pos l = λ e. let f : k ≡ l = ap nat_of e in omega (arith, f, p) in
-    omega (arith, ints, (h d).1)) (λ p. p)
-span_rises n (pos k) (negsuc l) h =
-    let d : pos k ≢ negsuc l = λ e. cc in
-    absurd (omega (arith, ints, (h d).1))
-span_rises n (negsuc k) (pos l) h = omega arith
-span_rises n (negsuc k) (negsuc l) h = omega arith
 
 -- a list that holds an item ends within
 span_top : (n : ℕ) (a b : ℤ) → IsSpan n a b → nat_of b ≤ max n (nat_of a)

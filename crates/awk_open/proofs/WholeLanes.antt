@@ -18,6 +18,7 @@ use Rattle.awk_layout.specs.Layout.{Layout, layouts_from, flat, regular, lists, 
 use Rattle.awk_layout.specs.Valid.{len, IsValid}
 use Rattle.awk_gather.specs.Arrays.{array_item}
 use Rattle.awk_columns.specs.Joined.{AreOffsets}
+use Rattle.awk_columns.specs.Lists.{AreInRow}
 use Rattle.awk_columns.specs.ListValues.{list_at}
 use Rattle.awk_columns.proofs.ArrayLaws.{item-offset_lists}
 use Rattle.awk_columns.proofs.OffsetLaws.{are_offsets}
@@ -77,6 +78,18 @@ spans-cut o n v =
           let l : i + 1 < size_of o = omega (arith, a) in
           rw (starts-at o i l, stops-at o i l) (v.ordered i l);
     }
+
+-- where one list ends the next begins
+row-cut : (o : Column) (m : ℕ) → m + 1 ≡ size_of o → AreInRow (cut_of o 0 m) (cut_of o 1 (m + 1))
+row-cut o m e i l =
+    let long = size-cut o 0 m (omega arith) (omega (arith, e)) in
+    let next : 0 + (i + 1) ≡ 1 + i = omega arith in
+    at-cut o 0 m (i + 1) (omega (arith, l, long)) ∙ ap (at o) next
+    ∙ sym (at-cut o 1 (m + 1) i (omega (arith, l, long)))
+
+pub cut_in_row : (o a b : Column) (m n : ℕ) → n ≡ m + 1 → n ≡ size_of o → a ≡ cut_of o 0 m
+    → b ≡ cut_of o 1 n → AreInRow a b
+cut_in_row o a b m n e f g h = rw (g, h, e) (row-cut o m (omega (arith, e, f)))
 
 pub whole_offsets : (o a b : Column) (n : ℕ) (x z : Layout) → IsValid (offset_lists o x) → z ≡ x
     → n ≡ size_of o → a ≡ cut_of o 0 (n - 1) → b ≡ cut_of o 1 n

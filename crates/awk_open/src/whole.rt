@@ -44,7 +44,7 @@ fn whole_offsets<'a, L: Ledger>(
     let n = offsets.len();
     let starts = offsets.cut(0, n - 1, steps);
     let stops = offsets.cut(1, n, steps);
-    Ok(Opened::Items(Lists::new(None, starts, stops, content)))
+    Ok(Opened::Items(Lists::in_row(None, starts, stops, content)))
 }
 
 /// Lists of one size.
@@ -85,7 +85,7 @@ fn whole_regular<'a, L: Ledger>(
     let offsets = offsets_of(n, &even, arena, steps)?;
     let starts = offsets.lane.cut(0, n, steps);
     let stops = offsets.lane.cut(1, n + 1, steps);
-    Ok(Opened::Items(Lists::new(Some(size), starts, stops, content)))
+    Ok(Opened::Items(Lists::in_row(Some(size), starts, stops, content)))
 }
 
 /// Whether each of these has n items.

@@ -1,5 +1,5 @@
 //! How many items lists have together, and counts of lists of which no item is null: their lengths.
-ghost use Rattle.std.specs.Prelude.{◌≡◌, ◌<◌, ◌≤◌, ℕ, true, IfOk};
+ghost use Rattle.std.specs.Prelude.{◌≡◌, ◌<◌, ◌≤◌, ℕ, true, IfOk, IfSome};
 ghost use Rattle.awk_lanes.specs.Counted.{before};
 ghost use Rattle.awk_lanes.specs.Places.{size_of, at};
 ghost use Rattle.awk_layout.specs.Typing.{array_type};
@@ -60,8 +60,9 @@ fn total_of<S: Lengths, L: Ledger>(n: u64, source: &S, steps: &mut Steps<L>) -> 
     total
 }
 
-/// Whether n lists, each of no more than so many items, have no more together than the limit.
-pub(crate) fn are_within<S: Lengths, L: Ledger>(
+/// Whether n lists, each of no more than so many items, have no more together than the limit, by a
+/// look at each.
+fn are_counted_within<S: Lengths, L: Ledger>(
     n: u64,
     most: u64,
     source: &S,
@@ -79,6 +80,27 @@ pub(crate) fn are_within<S: Lengths, L: Ledger>(
         return long_are_within(n, source, steps);
     }
     total_of(n, source, steps) <= ITEM_LIMIT
+}
+
+/// Whether n lists, each of no more than so many items, have no more together than the limit. Where
+/// it is known how many they have, as of lists in a row, none is looked at.
+pub(crate) fn are_within<S: Lengths, L: Ledger>(
+    known: Option<u64>,
+    n: u64,
+    most: u64,
+    source: &S,
+    steps: &mut Steps<L>,
+) -> bool
+    requires known { IfSome known (λ total. total ≡ before (S.length source.now) n) }
+    requires ready { S.IsReady source.now }
+    requires within { n ≤ S.size source.now }
+    requires most { (i : ℕ) → i < n → S.length source.now i ≤ most }
+    ensures { IsWithin result (before (S.length source.now) n) }
+{
+    match known {
+        Some(total) => total <= ITEM_LIMIT,
+        None => are_counted_within(n, most, source, steps),
+    }
 }
 
 /// The lengths of lists.

@@ -80,7 +80,8 @@ fn reduced_plain<'a, N: Kernels, L: Ledger>(
 {
     let most = lists.content().len();
     let count = spans.starts.len() as u64;
-    if !are_within(count, most, &SpanLengths { spans }, steps) {
+    let known = lists.row_total(steps);
+    if !are_within(known, count, most, &SpanLengths { spans }, steps) {
         return Ok(Made::Spoiled(Spoil::Size));
     }
     let lane = leaves_of(alloc, lists.content(), arena, steps)?;
@@ -128,7 +129,8 @@ fn reduced_options<'a, L: Ledger>(
 {
     let bounds = Bounds::new(alloc, lists, arena, steps)?;
     let most = bounds.content().len();
-    if are_within(bounds.len(), most, &bounds, steps) {
+    let known = bounds.row_total(steps);
+    if are_within(known, bounds.len(), most, &bounds, steps) {
         let leaves = nullable_of(alloc, lists.content(), arena, steps)?;
         reduced_opened(alloc, how, &bounds, &leaves, arena, steps)
     } else {

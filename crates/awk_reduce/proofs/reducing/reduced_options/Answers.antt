@@ -1,4 +1,4 @@
-use Rattle.std.proofs.Common.{ap, sym, ◌∙◌, arith}
+use Rattle.std.proofs.Common.{◌≡◌, IfSome, ap, sym, subst, ◌∙◌, arith}
 use Rattle.awk_types.specs.Predicates.{is_leaf}
 use Rattle.awk_types.specs.Simple.{present, is_option}
 use Rattle.awk_lanes.specs.Counted.{before}
@@ -53,3 +53,10 @@ are_within-requires-clause-most g c i k =
       ap len c.content.ensures.content,
       c.len-most.ensures.len,
     )
+
+pub are_within-requires-clause-known : goal.are_within-requires-clause-known
+are_within-requires-clause-known g c =
+    let b = c.in_ok-bounds.bounds in
+    subst (λ n. IfSome c.row_total-known.result
+    (λ total. total ≡ before (span_length b.starts b.stops) n)) (sym c.len.ensures.len)
+    c.row_total-known.ensures

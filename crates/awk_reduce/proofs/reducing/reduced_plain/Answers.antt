@@ -1,4 +1,4 @@
-use Rattle.std.proofs.Common.{ap, ◌∙◌, subst, arith}
+use Rattle.std.proofs.Common.{◌≡◌, IfSome, ap, sym, ◌∙◌, subst, arith}
 use Rattle.std.proofs.lemmas.Result.{IfOk-weaker}
 use Rattle.awk_types.specs.Predicates.{is_leaf}
 use Rattle.awk_layout.specs.Laws.{len-fits}
@@ -10,8 +10,14 @@ use Rattle.awk_present.specs.Present.{AreLeaves}
 use Rattle.awk_reduce.specs.Reduce.{reducer_function}
 use Rattle.awk_reduce.proofs.ListLaws.{made_of_lists, reduced_spoilt, total-is}
 use Rattle.awk_reduce.proofs.PlainLaws.{plain_ready}
-use Rattle.awk_reduce.proofs.SpanLaws.{ordered_short, ordered_wider}
+use Rattle.awk_reduce.proofs.SpanLaws.{before-is, ordered_short, ordered_wider}
 use Rattle.awk_reduce.proofs.reducing.reduced_plain.Goals as goal
+
+pub are_within-requires-clause-known : goal.are_within-requires-clause-known
+are_within-requires-clause-known g c =
+    let l = c.args.lists.now in
+    subst (λ m. IfSome c.row_total-known.result (λ total. total ≡ m))
+    (sym (before-is l.starts l.stops c.args.spans.now c.requires.ends)) c.row_total-known.ensures
 
 pub are_within-requires-clause-ready : goal.are_within-requires-clause-ready
 are_within-requires-clause-ready g c =

@@ -3,7 +3,7 @@ use Rattle.awk_lanes.specs.Counted.{before}
 use Rattle.awk_lanes.specs.Places.{size_of}
 use Rattle.awk_lanes.proofs.CountedLanes.{before-next, total_passed}
 use Rattle.awk_columns.specs.Lists.{span_length}
-use Rattle.awk_list_ends.proofs.total.are_within.Goals as goal
+use Rattle.awk_list_ends.proofs.total.are_counted_within.Goals as goal
 
 pub returns-then-length-limit-clause-beyond : goal.returns-then-length-limit-clause-beyond
 returns-then-length-limit-clause-beyond c e =

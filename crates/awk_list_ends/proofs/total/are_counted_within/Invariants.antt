@@ -1,7 +1,7 @@
 use Rattle.std.specs.Prelude.{◌≡◌, ◌≤◌}
 use Rattle.awk_lanes.specs.Counted.{before}
 use Rattle.awk_columns.specs.Lists.{span_length}
-use Rattle.awk_list_ends.proofs.total.are_within.Given as goal
+use Rattle.awk_list_ends.proofs.total.are_counted_within.Given as goal
 
 abbrev pub invariant-loop-i : goal.invariant-loop-i
 invariant-loop-i l = record {
