@@ -8,6 +8,7 @@ ghost use Rattle.awk_counts.specs.Counted.{count_or_null, counted_lane};
 
 use awk_index::Index;
 use awk_lanes::{Arena, IndexMaker, Lane, NoMemory, Num, number};
+use awk_narrow::OptionIndex;
 
 /// 1 where there is a place, else 0.
 #[inline(always)]
@@ -22,26 +23,26 @@ pub(crate) fn one_if(place: Option<u64>) -> u64
 
 /// How many items the index of an option names.
 #[tactic(auto, using(crate::proofs::FirstPlaces::counting))]
-pub fn count_present(index: &Index) -> u64
-    requires kind { IsOptionKind index.now.kind }
-    ensures { result ≡ length (first_of (present_at index.now) (size_of index.now)) }
+pub fn count_present<P: OptionIndex>(index: &P) -> u64
+    requires kind { IsOptionKind (P.lane index.now).kind }
+    ensures { let lane = P.lane index.now in
+        result ≡ length (first_of (present_at lane) (size_of lane)) }
 {
     let mut count = 0;
-    for i in 0..index.len() {
-        count += one_if(index.option_place(i));
+    for i in 0..index.size() {
+        count += one_if(index.place(i));
     }
     count
 }
 
-/// `next` where the index of an option names an item at place i, else -1.
-fn next_number(index: &Index, i: u64, next: u64) -> Num
-    requires kind { IsOptionKind index.now.kind }
-    requires within { i < size_of index.now }
+/// `next` where there is a place, else -1.
+#[inline(always)]
+fn next_number(place: Option<u64>, next: u64) -> Num
     requires small { next < 2 ^ 63 }
-    ensures number { int_of result ≡ count_or_null next (option_place_at index.now i) }
+    ensures number { int_of result ≡ count_or_null next place }
     ensures kind { IsOf Kind.I64 result }
 {
-    match index.option_place(i) {
+    match place {
         Some(_) => Num::Int(next as i64),
         None => Num::Int(-1),
     }
@@ -49,18 +50,18 @@ fn next_number(index: &Index, i: u64, next: u64) -> Num
 
 /// The index of an option over the present items alone: it counts up, and is -1 for each null.
 #[tactic(auto, using(awk_lanes::proofs::MadeLanes::making))]
-pub fn counted<'a>(index: &Index, arena: &'a Arena) -> Result<Lane<'a>, NoMemory>
-    requires kind { IsOptionKind index.now.kind }
-    requires small { size_of index.now < 2 ^ 63 }
-    ensures lane { IfOk result (λ r. r ≡ counted_lane index.now) }
+pub fn counted<'a, P: OptionIndex>(index: &P, arena: &'a Arena) -> Result<Lane<'a>, NoMemory>
+    requires kind { IsOptionKind (P.lane index.now).kind }
+    requires small { size_of (P.lane index.now) < 2 ^ 63 }
+    ensures lane { IfOk result (λ r. r ≡ counted_lane (P.lane index.now)) }
 {
-    let n = index.len();
+    let n = index.size();
     let mut maker = IndexMaker::new(n, arena)?;
     let mut next = 0;
     for i in 0..n {
-        let number = next_number(index, i, next);
-        maker.push(number);
-        next += one_if(index.option_place(i));
+        let place = index.place(i);
+        maker.push(next_number(place, next));
+        next += one_if(place);
     }
     Ok(maker.finish())
 }

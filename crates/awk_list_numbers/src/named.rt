@@ -6,43 +6,43 @@ ghost use Rattle.awk_counts.specs.Counted.{first_of, numbers_at, present_at};
 
 use crate::moved::{Places, list_numbers};
 use awk_counts::count_present;
-use awk_index::Index;
 use awk_lanes::{Arena, Lane, Lengths, Steps};
 use awk_layout::{Array, Class, Node};
+use awk_narrow::OptionIndex;
 use awk_types::NoMemory;
 use std::alloc::Global;
 use std::sync::ledger::Ledger;
 
 /// The places that the index of an option names, each as a list of one place.
 #[derive(Drop)]
-struct NamedPlaces<'b, 'a> {
-    index: &'b Index<'a>,
+struct NamedPlaces<'b, P: OptionIndex> {
+    index: &'b P,
 }
 
-impl<'b, 'a> Lengths for NamedPlaces<'b, 'a> {
+impl<'b, P: OptionIndex> Lengths for NamedPlaces<'b, P> {
     ghost use Rattle.std.specs.Prelude.{length};
     ghost use Rattle.awk_lanes.specs.Places.{size_of};
     ghost use Rattle.awk_counts.specs.Counted.{present_at};
 
-    ghost length = { λ f i. length (present_at f.index.now i) };
+    ghost length = { λ f i. length (present_at (P.lane f.index.now) i) };
 
-    ghost size = { λ f. size_of f.index.now };
+    ghost size = { λ f. size_of (P.lane f.index.now) };
 
     fn length<L: Ledger>(&self, i: u64, _steps: &mut Steps<L>) -> u64 {
-        match self.index.option_place(i) {
+        match self.index.place(i) {
             Some(_) => 1,
             None => 0,
         }
     }
 }
 
-impl<'b, 'a> Places for NamedPlaces<'b, 'a> {
+impl<'b, P: OptionIndex> Places for NamedPlaces<'b, P> {
     ghost use Rattle.awk_lanes.specs.Places.{place_at};
 
-    ghost place = { λ f i k. place_at f.index.now i };
+    ghost place = { λ f i k. place_at (P.lane f.index.now) i };
 
     fn place<L: Ledger>(&self, i: u64, _k: u64, _steps: &mut Steps<L>) -> u64 {
-        match self.index.option_place(i) {
+        match self.index.place(i) {
             Some(place) => place,
             None => 0,
         }
@@ -51,21 +51,23 @@ impl<'b, 'a> Places for NamedPlaces<'b, 'a> {
 
 /// The numbers of a lane that the index of an option names, in its order, of which there are
 /// `total`.
-pub fn all_named<'a, L: Ledger>(
+pub fn all_named<'a, P: OptionIndex, L: Ledger>(
     alloc: Global,
-    index: &Index,
+    index: &P,
     total: u64,
     lane: &Lane,
     arena: &'a Arena,
     steps: &mut Steps<L>,
 ) -> Result<Array<'a>, NoMemory>
-    requires index { IsOptionalIndex index.now (size_of lane.now) }
-    requires small { size_of index.now < 2 ^ 63 }
-    requires total { total ≡ length (first_of (present_at index.now) (size_of index.now)) }
-    ensures { let places = first_of (present_at index.now) (size_of index.now) in
+    requires index { IsOptionalIndex (P.lane index.now) (size_of lane.now) }
+    requires small { size_of (P.lane index.now) < 2 ^ 63 }
+    requires total { let named = P.lane index.now in
+        total ≡ length (first_of (present_at named) (size_of named)) }
+    ensures { let named = P.lane index.now in
+        let places = first_of (present_at named) (size_of named) in
         IfOk result (λ r. r ≡ flat (numbers_at lane.now places)) }
 {
-    let n = index.len();
+    let n = index.size();
     let named = NamedPlaces { index };
     let numbers = list_numbers(lane, n, total, &named, arena, steps)?;
     let array = Array::of_node(alloc, Node::numpy(numbers, steps))?;
@@ -73,16 +75,17 @@ pub fn all_named<'a, L: Ledger>(
 }
 
 /// The same, counted first.
-pub fn named_numbers<'a, L: Ledger>(
+pub fn named_numbers<'a, P: OptionIndex, L: Ledger>(
     alloc: Global,
-    index: &Index,
+    index: &P,
     lane: &Lane,
     arena: &'a Arena,
     steps: &mut Steps<L>,
 ) -> Result<Array<'a>, NoMemory>
-    requires index { IsOptionalIndex index.now (size_of lane.now) }
-    requires small { size_of index.now < 2 ^ 63 }
-    ensures { let places = first_of (present_at index.now) (size_of index.now) in
+    requires index { IsOptionalIndex (P.lane index.now) (size_of lane.now) }
+    requires small { size_of (P.lane index.now) < 2 ^ 63 }
+    ensures { let named = P.lane index.now in
+        let places = first_of (present_at named) (size_of named) in
         IfOk result (λ r. r ≡ flat (numbers_at lane.now places)) }
 {
     let total = count_present(index);

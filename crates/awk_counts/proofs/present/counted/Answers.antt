@@ -7,48 +7,52 @@ use Rattle.awk_lanes.proofs.MadeLanes.{so_far_pushed}
 use Rattle.awk_counts.proofs.present.counted.Goals as goal
 
 pub loop-i-preserved : goal.loop-i-preserved
-loop-i-preserved c = record {
+loop-i-preserved g c = record {
   next =
       omega (
         arith,
-        length-first_of (present_at c.args.index.now) c.loop-i.i,
+        length-first_of (present_at (g.P.OptionIndex.lane c.args.index.now)) c.loop-i.i,
         c.loop-i.invariant.next,
         c.one_if-next.ensures,
         ap (λ o. length (present_place o))
-            c.option_place.ensures,
+            c.place-place.ensures,
       );
   made =
-      so_far_pushed _ _ _ c.loop-i.i (int_of c.next_number-number.result) c.loop-i.maker
+      so_far_pushed _ _ _ c.loop-i.i (int_of c.next_number.result) c.loop-i.maker
       c.push.new.self c.push.ensures
-      (c.next_number-number.ensures.number ∙ ap
-      (λ n. count_or_null n (option_place_at c.args.index.now c.loop-i.i))
+      (c.next_number.ensures.number
+      ∙ ap (count_or_null c.loop-i.next) c.place-place.ensures
+      ∙ ap
+      (λ n. count_or_null n (option_place_at (g.P.OptionIndex.lane c.args.index.now) c.loop-i.i))
       c.loop-i.invariant.next)
       c.loop-i.invariant.made;
 }
 
-pub next_number-number-requires-clause-small : goal.next_number-number-requires-clause-small
-next_number-number-requires-clause-small c =
-    omega (
-      arith,
-      present-few c.args.index.now c.loop-i.i,
-      c.loop-i.invariant.next,
-      c.loop-i-test.true,
-      c.len-n.ensures.len,
-      c.requires.small,
-    )
+pub next_number-requires : goal.next_number-requires
+next_number-requires g c = record {
+  small =
+      omega (
+        arith,
+        present-few (g.P.OptionIndex.lane c.args.index.now) c.loop-i.i,
+        c.loop-i.invariant.next,
+        c.loop-i-test.true,
+        c.size-n.ensures,
+        c.requires.small,
+      );
+}
 
 pub overflow_add-next : goal.overflow_add-next
-overflow_add-next c =
+overflow_add-next g c =
     omega (
       arith,
-      present-few c.args.index.now (c.loop-i.i + 1),
+      present-few (g.P.OptionIndex.lane c.args.index.now) (c.loop-i.i + 1),
       length-first_of
-          (present_at c.args.index.now) c.loop-i.i,
+          (present_at (g.P.OptionIndex.lane c.args.index.now)) c.loop-i.i,
       c.loop-i.invariant.next,
       c.one_if-next.ensures,
       ap
-          (λ o. length (present_place o)) c.option_place.ensures,
+          (λ o. length (present_place o)) c.place-place.ensures,
       c.loop-i-test.true,
-      c.len-n.ensures.len,
+      c.size-n.ensures,
       c.requires.small,
     )

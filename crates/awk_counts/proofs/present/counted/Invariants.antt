@@ -6,7 +6,8 @@ use Rattle.awk_lanes.proofs.MadeLanes.{IsSoFar}
 use Rattle.awk_counts.proofs.present.counted.Given as goal
 
 abbrev pub invariant-loop-i : goal.invariant-loop-i
-invariant-loop-i l = record {
-  next : l.next ≡ length (first_of (present_at l.index) l.i);
-  made : IsSoFar I64 (size_of l.index) (counted_at l.index) l.i l.maker;
+invariant-loop-i g l = record {
+  next : l.next ≡ length (first_of (present_at (g.P.OptionIndex.lane l.index)) l.i);
+  made : IsSoFar I64 (size_of (g.P.OptionIndex.lane l.index))
+      (counted_at (g.P.OptionIndex.lane l.index)) l.i l.maker;
 }

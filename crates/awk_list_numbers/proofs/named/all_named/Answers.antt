@@ -14,23 +14,24 @@ use Rattle.awk_list_numbers.proofs.NamedPlaces.{named_at, places-read, count-rea
 
 pub list_numbers-requires-clause-total : goal.list_numbers-requires-clause-total
 list_numbers-requires-clause-total g c =
-    count-read c.args.index.now (size_of c.args.index.now) c.args.total c.requires.total
-    ∙ ap (before (named_at c.args.index.now)) (sym c.len-n.ensures.len)
+    let j = g.P.OptionIndex.lane c.args.index.now in
+    count-read j (size_of j) c.args.total c.requires.total
+    ∙ ap (before (named_at j)) (sym c.size-n.ensures)
 
 pub list_numbers-requires-clause-places : goal.list_numbers-requires-clause-places
 list_numbers-requires-clause-places g c i k a b =
-    are_places c.args.index.now (size_of c.args.lane.now) c.requires.index i k
-    (omega (arith, a, c.len-n.ensures.len)) b
+    are_places (g.P.OptionIndex.lane c.args.index.now) (size_of c.args.lane.now)
+    c.requires.index i k (omega (arith, a, c.size-n.ensures)) b
 
 pub numpy-requires : goal.numpy-requires
 numpy-requires g c =
-    let j = c.args.index.now in
-    let ks = list_places (named_at j) (λ i k. place_at j i) c.len-n.result in
-    let e : ks ≡ first_of (present_at j) c.len-n.result = places-read j c.len-n.result in
-    let size : size_of c.in_ok-numbers.numbers ≡ length (first_of (present_at j) c.len-n.result) =
+    let j = g.P.OptionIndex.lane c.args.index.now in
+    let ks = list_places (named_at j) (λ i k. place_at j i) c.size-n.result in
+    let e : ks ≡ first_of (present_at j) c.size-n.result = places-read j c.size-n.result in
+    let size : size_of c.in_ok-numbers.numbers ≡ length (first_of (present_at j) c.size-n.result) =
     ap size_of c.in_ok-numbers.ensures
     ∙ length-map ks (λ k. get_or c.args.lane.now.items k (pos 0)) ∙ ap length e in
-    omega (arith, size, present-few j c.len-n.result, c.len-n.ensures.len, c.requires.small)
+    omega (arith, size, present-few j c.size-n.result, c.size-n.ensures, c.requires.small)
 
 pub of_node-requires : goal.of_node-requires
 of_node-requires g c =
@@ -38,8 +39,8 @@ of_node-requires g c =
 
 pub returns : goal.returns
 returns g c =
-    let j = c.args.index.now in
+    let j = g.P.OptionIndex.lane c.args.index.now in
     c.in_ok-array.ensures ∙ c.numpy.ensures.node
     ∙ ap flat (c.in_ok-numbers.ensures
-    ∙ ap (numbers_at c.args.lane.now) (places-read j c.len-n.result
-    ∙ ap (first_of (present_at j)) c.len-n.ensures.len))
+    ∙ ap (numbers_at c.args.lane.now) (places-read j c.size-n.result
+    ∙ ap (first_of (present_at j)) c.size-n.ensures))

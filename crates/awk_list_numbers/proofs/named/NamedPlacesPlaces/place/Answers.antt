@@ -5,12 +5,12 @@ use Rattle.awk_list_numbers.proofs.NamedPlaces.{named_place, no_place_named}
 
 pub returns-in-Some : goal.returns-in-Some
 returns-in-Some g c = record {
-  place = named_place (at c.args.self.now.index.now c.args.i) c.in-Some.place
-      (sym c.option_place.ensures ∙ c.in-Some.is);
+  place = named_place (at (g.P.OptionIndex.lane c.args.self.now.index.now) c.args.i) c.in-Some.place
+      (sym c.place.ensures ∙ c.in-Some.is);
 }
 
 pub returns-in-None : goal.returns-in-None
 returns-in-None g c = record {
-  place = no_place_named (at c.args.self.now.index.now c.args.i)
-      (sym c.option_place.ensures ∙ c.in-None.is);
+  place = no_place_named (at (g.P.OptionIndex.lane c.args.self.now.index.now) c.args.i)
+      (sym c.place.ensures ∙ c.in-None.is);
 }
