@@ -12,3 +12,4 @@ pub mod OrderedKinds
 pub mod OpeningLaws
 pub mod OpenedLists
 pub mod OnlyKinds
+pub mod MaskLanes

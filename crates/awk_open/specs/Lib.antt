@@ -3,3 +3,4 @@ pub mod Settled
 pub mod Inner
 pub mod InOrder
 pub mod Opens
+pub mod Masked

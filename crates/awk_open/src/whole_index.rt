@@ -6,9 +6,11 @@ ghost use Rattle.awk_lanes.specs.declared.kind.Kind.TheVariants as Kinds;
 ghost use Rattle.awk_layout.specs.Valid.{len};
 ghost use Rattle.awk_gather.specs.Peeled.{IsPeeled, byte_index};
 
-use awk_gather::{Peeled, if_shown, peel};
-use awk_lanes::{Arena, Kind, Lane, Num, Numbers, Steps, index_at, is_set, made_lane, ordinals};
+use crate::masks::mask_index;
+use awk_gather::{Peeled, peel};
+use awk_lanes::{Arena, Kind, Lane, Num, Numbers, Steps, index_at, made_lane, ordinals};
 use awk_layout::{Class, Node};
+use awk_narrow::OptionIndex;
 use awk_types::NoMemory;
 use std::alloc::Global;
 use std::sync::ledger::Ledger;
@@ -70,33 +72,6 @@ fn peel_index<'a, L: Ledger>(
     peel(alloc, content, index, arena, steps)
 }
 
-/// Each place whose byte says that the item is there.
-#[derive(Drop)]
-struct Shown<'b, 'a> {
-    mask: &'b Lane<'a>,
-    valid_when: bool,
-}
-
-impl<'b, 'a> Numbers for Shown<'b, 'a> {
-    ghost use Rattle.std.specs.Prelude.{◌≡◌, ◌<◌, ◌^◌};
-    ghost use Rattle.awk_lanes.specs.declared.kind.Kind.TheVariants as Kinds;
-    ghost use Rattle.awk_lanes.specs.Places.{size_of};
-    ghost use Rattle.awk_gather.specs.Peeled.{byte_index};
-
-    ghost kind = { λ _. Kinds.I64 };
-
-    ghost at = { λ x. byte_index x.mask.now x.valid_when };
-
-    ghost size = { λ x. size_of x.mask.now };
-
-    ghost IsReady = { λ x. (x.mask.now.kind ≡ Kinds.I8) × (size_of x.mask.now < 2 ^ 63) };
-
-    fn number<L: Ledger>(&self, i: u64, steps: &mut Steps<L>) -> Num {
-        let shown = is_set(self.mask, i, steps) == self.valid_when;
-        Num::Int(if_shown(shown, i))
-    }
-}
-
 /// Options and indexes are taken off what a mask of bytes lies over.
 fn peel_mask<'a, L: Ledger>(
     alloc: Global,
@@ -114,8 +89,8 @@ fn peel_mask<'a, L: Ledger>(
         let index = lane_of Kinds.I64 (size_of mask.now) there in
         IfOk result (λ r. IsPeeled content.now index r.index r.content) }
 {
-    let source = Shown { mask, valid_when };
-    let index = made_lane(Kind::I64, mask.len(), &source, arena, steps)?;
+    let places = mask_index(mask, valid_when, steps);
+    let index = made_lane(Kind::I64, places.size(), &places, arena, steps)?;
     peel(alloc, content, index, arena, steps)
 }
 
