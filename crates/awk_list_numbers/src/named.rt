@@ -92,14 +92,21 @@ pub fn named_numbers<'a, P: OptionIndex, L: Ledger>(
     all_named(alloc, index, total, lane, arena, steps)
 }
 
-/// Whether an array is an option over numbers behind an index. No clause says so: it is asked only
-/// to choose the quicker of two ways.
+/// Whether a node is of numbers.
+fn is_numpy(node: &Node) -> bool {
+    match node.class() {
+        Class::Numpy { .. } => true,
+        _ => false,
+    }
+}
+
+/// Whether an array is an option over numbers, behind an index or a mask of bytes. No clause says
+/// so: it is asked only to choose the quicker of two ways.
 pub fn has_numbers(x: &Array) -> bool {
     match x.node().class() {
-        Class::IndexedOption { content, .. } => match content.class() {
-            Class::Numpy { .. } => true,
-            _ => false,
-        },
+        Class::IndexedOption { content, .. } | Class::ByteMasked { content, .. } => {
+            is_numpy(content)
+        }
         _ => false,
     }
 }
