@@ -298,7 +298,7 @@ holds_ordered j y x o = record {
   items = o.items;
 }
 
-holds_whole : (j : Column) (y x : Layout) → IsOpened x (Optional j y) → HoldsOption j y x
+pub holds_whole : (j : Column) (y x : Layout) → IsOpened x (Optional j y) → HoldsOption j y x
 holds_whole j y x o = record {
   typ = o.kind;
   size = o.size;

@@ -10,7 +10,7 @@ ghost use Rattle.awk_fill.specs.Filled.{HoldsOption};
 
 use awk_lanes::{Arena, Kind, Lane, Steps};
 use awk_layout::{Array, Class, Datum, Node, Operand};
-use awk_open::{Opened, open_array};
+use awk_open::{Opened, open_array, opened};
 use awk_types::{NoMemory, Prim, Typ};
 use std::alloc::Global;
 use std::sync::ledger::Ledger;
@@ -82,6 +82,35 @@ fn whole_parts<'a>(alloc: Global, x: &Array<'a>) -> Result<Option<Parts<'a>>, No
     }
 }
 
+/// Whether an array is a mask of bytes over numbers of 64 bits with a sign. No clause says so: it
+/// is asked only to choose the quicker of two ways.
+fn is_masked(x: &Array) -> bool {
+    match x.node().class() {
+        Class::ByteMasked { content, .. } => match content.class() {
+            Class::Numpy { lane } => lane.kind() == Kind::I64,
+            _ => false,
+        },
+        _ => false,
+    }
+}
+
+/// The parts of an option, as its content lies.
+fn opened_parts<'a, L: Ledger>(
+    alloc: Global,
+    x: &Array<'a>,
+    arena: &'a Arena,
+    steps: &mut Steps<L>,
+) -> Result<Parts<'a>, NoMemory>
+    requires option { is_option (array_type x.now) ≡ true }
+    ensures { IfOk result (λ r. HoldsOption r.index r.content x.now) }
+{
+    let _ = x.len();
+    match opened(alloc, x, arena, steps)? {
+        Opened::Option { index, content } => Ok(Parts { index, content }),
+        _ => unreachable!(),
+    }
+}
+
 /// The parts of an option whose nulls become a value: as they lie where numbers are filled in one
 /// pass, and else what is present alone.
 pub(crate) fn parts_of<'a, L: Ledger>(
@@ -95,6 +124,9 @@ pub(crate) fn parts_of<'a, L: Ledger>(
     ensures { IfOk result (λ r. HoldsOption r.index r.content x.now) }
 {
     if is_wide(value) {
+        if is_masked(x) {
+            return opened_parts(alloc, x, arena, steps);
+        }
         let whole = whole_parts(alloc, x)?;
         if let Some(parts) = whole {
             return Ok(parts);
