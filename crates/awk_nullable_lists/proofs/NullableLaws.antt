@@ -13,7 +13,6 @@ use Rattle.awk_types.proofs.NullLaws.{in_option-same}
 use Rattle.awk_lanes.specs.Column.{Column}
 use Rattle.awk_lanes.specs.Numbers.{element, number, numbers, width, is_nonzero}
 use Rattle.awk_lanes.specs.Places.{size_of, at, option_place, option_place_at}
-use Rattle.awk_lanes.specs.Places.{index_or_null}
 use Rattle.awk_lanes.specs.declared.kind.Kind.TheVariants as kind
 use Rattle.awk_lanes.specs.declared.kind.Kind.TheVariants.{I8}
 use Rattle.awk_layout.specs.Item.{leaf_value, at_option, agrees, byte_shows, bit_shows}
@@ -26,7 +25,7 @@ use Rattle.awk_gather_lanes.proofs.MovedGroups.{length-groups, number-group}
 use Rattle.awk_open.specs.Opened.{IsOpened}
 use Rattle.awk_open.specs.declared.opening.Opened.TheVariants as opened
 use Rattle.awk_columns.proofs.ArrayLaws.{array_items-at}
-use Rattle.awk_parts.specs.Lanes.{some_place}
+use Rattle.awk_parts.specs.Lanes.{mask_byte, some_place}
 use Rattle.awk_present.specs.Numbers.{leaf_of}
 use Rattle.awk_present.specs.Present.{AreLeaves as AreLaneOf}
 use Rattle.awk_present.proofs.LeafLaws.{leaf_of-opt}
@@ -155,11 +154,10 @@ module _ (c : Column) where
           ∙ item_by (at j i) (opens.valid.1.below i l);
     }
 
-pub index_there : (i : ℕ) (zs : List ℤ) → IsFilled true zs → index_or_null i (some_place zs) ≡ pos i
-index_there i [] h = absurd (h refl)
-index_there i (z ∷ zs) h = refl
+pub byte_there : (zs : List ℤ) → IsFilled true zs → mask_byte (some_place zs) ≡ pos 1
+byte_there [] h = absurd (h refl)
+byte_there (z ∷ zs) h = refl
 
-pub index_nowhere : (i : ℕ) (zs : List ℤ) → IsFilled false zs
-    → index_or_null i (some_place zs) ≡ negsuc 0
-index_nowhere i [] h = refl
-index_nowhere i (z ∷ zs) h = let w : z ∷ zs ≡ [] = h in cc
+pub byte_nowhere : (zs : List ℤ) → IsFilled false zs → mask_byte (some_place zs) ≡ pos 0
+byte_nowhere [] h = refl
+byte_nowhere (z ∷ zs) h = let w : z ∷ zs ≡ [] = h in cc

@@ -1,14 +1,14 @@
 -- A number for each list of leaves of which some may be null.
 use Rattle.std.specs.Prelude.{◌≡◌, ℕ, ◌<◌, ◌≤◌, ℤ, pos, List, Option, Some, None}
 use Rattle.awk_lanes.specs.Column.{Column}
-use Rattle.awk_lanes.specs.Places.{size_of, place_at, index_or_null}
+use Rattle.awk_lanes.specs.Places.{size_of, place_at}
 use Rattle.awk_layout.specs.Valid.{len}
 use Rattle.awk_columns.specs.Lists.{Listed, span_length}
 use Rattle.awk_numbers.specs.Folds.{folded, tallied, extreme_of}
 use Rattle.awk_numbers.specs.declared.extremes.Extreme.{Extreme}
 use Rattle.awk_numbers.specs.declared.folds.Fold.{Fold}
 use Rattle.awk_numbers.specs.declared.tallies.Tally.{Tally}
-use Rattle.awk_parts.specs.Lanes.{place_or_zero, some_place}
+use Rattle.awk_parts.specs.Lanes.{mask_byte, place_or_zero, some_place}
 use Rattle.awk_nullable.specs.Extremes.{extreme_place}
 use Rattle.awk_nullable.specs.Numbers.{numbers_from, AreLeading}
 
@@ -41,6 +41,6 @@ abbrev pub local_at : Extreme → Listed → (ℕ → Option ℤ) → ℕ → �
 local_at how l g i =
     place_or_zero (extreme_place how g (place_at l.starts i) (span_length l.starts l.stops i))
 
--- i where list i has a number, else -1
+-- 1 where list i has a number, else 0
 abbrev pub present_at : Listed → (ℕ → Option ℤ) → ℕ → ℤ
-present_at l g i = index_or_null i (some_place (numbers_at l g i))
+present_at l g i = mask_byte (some_place (numbers_at l g i))

@@ -237,7 +237,7 @@ pub fn place_lists<'b, P: Places, C: Cells, L: Ledger>(
     made_lane(Kind::I64, lists.bounds.len(), &source, arena, steps)
 }
 
-/// The index of the lists that have an item that is not null.
+/// A mask of the lists that have an item that is not null.
 #[derive(Drop)]
 struct ListsPresent<'x, 'c, 'r, 'a, P: Places, C: Cells> {
     lists: &'x LeafLists<'c, 'r, 'a, P, C>,
@@ -249,7 +249,7 @@ impl<'x, 'c, 'r, 'a, P: Places, C: Cells> Numbers for ListsPresent<'x, 'c, 'r, '
     ghost use Rattle.awk_nullable_lists.specs.Lists.{present_at, AreNullable};
     ghost use Rattle.awk_nullable.specs.Numbers.{leaf_number};
 
-    ghost kind = { λ _. Kind.I64 };
+    ghost kind = { λ _. Kind.I8 };
 
     ghost at = { λ f. present_at f.lists.now.bounds.now
         (leaf_number (P.at f.lists.now.leaves.now.places.now)
@@ -266,14 +266,14 @@ impl<'x, 'c, 'r, 'a, P: Places, C: Cells> Numbers for ListsPresent<'x, 'c, 'r, '
         let span = span_of(self.lists, i);
         let leaves = self.lists.leaves;
         if is_some_there(leaves, span.start, span.length, steps) {
-            number(i)
+            Num::Int(1)
         } else {
-            Num::Int(-1)
+            Num::Int(0)
         }
     }
 }
 
-/// The index of the lists that have an item that is not null: i for such a list, else -1.
+/// A mask of the lists that have an item that is not null: 1 for such a list, else 0.
 pub fn present_lists<'b, P: Places, C: Cells, L: Ledger>(
     lists: &LeafLists<'_, '_, '_, P, C>,
     arena: &'b Arena,
@@ -281,12 +281,12 @@ pub fn present_lists<'b, P: Places, C: Cells, L: Ledger>(
 ) -> Result<Lane<'b>, NoMemory>
     requires ready { AreNullable lists.now.bounds.now (P.at lists.now.leaves.now.places.now)
         (P.size lists.now.leaves.now.places.now) (C.lane lists.now.leaves.now.cells.now) }
-    ensures { IfOk result (λ r. r ≡ lane_of Kind.I64 (size_of lists.now.bounds.now.starts)
+    ensures { IfOk result (λ r. r ≡ lane_of Kind.I8 (size_of lists.now.bounds.now.starts)
         (present_at lists.now.bounds.now (leaf_number (P.at lists.now.leaves.now.places.now)
         (C.lane lists.now.leaves.now.cells.now)))) }
 {
     let source = ListsPresent { lists };
-    made_lane(Kind::I64, lists.bounds.len(), &source, arena, steps)
+    made_lane(Kind::I8, lists.bounds.len(), &source, arena, steps)
 }
 
 /// The sum of each list.

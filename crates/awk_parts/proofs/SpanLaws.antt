@@ -8,10 +8,10 @@ use Rattle.std.proofs.lemmas.List.Edits.{get_or-between}
 use Rattle.std.proofs.lemmas.List.FromFn.{fill_by_all}
 use Rattle.awk_lanes.specs.Column.{Column}
 use Rattle.awk_lanes.specs.Numbers.{number}
-use Rattle.awk_lanes.specs.Places.{size_of, at, IsIndexKind, index_or_null}
+use Rattle.awk_lanes.specs.Places.{size_of, at, IsIndexKind}
 use Rattle.awk_lanes.specs.declared.kind.Kind.TheVariants.{I64}
 use Rattle.awk_lanes.proofs.PlaceLaws.{at-index}
-use Rattle.awk_parts.specs.Lanes.{some_place}
+use Rattle.awk_parts.specs.Lanes.{mask_byte, some_place}
 use Rattle.awk_parts.specs.Spans.{end_at}
 
 -- the numbers of a lane of offsets, each as an i64
@@ -20,10 +20,9 @@ pub offsets_wide : (c : Column) → IsIndexKind c.kind
 offsets_wide c h =
     sym (fill_by_all (at c) c.items (size_of c) (pos 0) refl (λ j l. sym (at-index c j h)))
 
-pub some_there : (i : ℕ) (zs : List ℤ) → (length zs ≡ 0 → ⊥)
-    → index_or_null i (some_place zs) ≡ pos i
-some_there i [] h = absurd (h refl)
-some_there i (z ∷ zs) h = refl
+pub some_there : (zs : List ℤ) → (length zs ≡ 0 → ⊥) → mask_byte (some_place zs) ≡ pos 1
+some_there [] h = absurd (h refl)
+some_there (z ∷ zs) h = refl
 
 -- ---- the groups of a lane of offsets
 

@@ -4,7 +4,6 @@ use Rattle.awk_numbers.specs.Folds.{folded, tallied, first_extreme}
 use Rattle.awk_numbers.specs.declared.extremes.Extreme.{Extreme}
 use Rattle.awk_numbers.specs.declared.folds.Fold.{Fold}
 use Rattle.awk_numbers.specs.declared.tallies.Tally.{Tally}
-use Rattle.awk_lanes.specs.Places.{index_or_null}
 use Rattle.awk_cells.specs.Extremes.{number_or_zero}
 use Rattle.awk_parts.specs.Spans.{span_part}
 use Rattle.awk_parts.specs.declared.parts.Spans.{Spans}
@@ -37,6 +36,11 @@ abbrev pub some_place : List ℤ → Option ℕ
 some_place [] = None
 some_place (z ∷ zs) = Some 0
 
--- i where part i has a number, else -1
+-- the byte of a mask for an item: 1 where it is there, else 0
+abbrev pub mask_byte : Option ℕ → ℤ
+mask_byte None = pos 0
+mask_byte (Some k) = pos 1
+
+-- 1 where part i has a number, else 0
 abbrev pub present_at : List ℤ → Spans → ℕ → ℤ
-present_at zs p i = index_or_null i (some_place (span_part zs p i))
+present_at zs p i = mask_byte (some_place (span_part zs p i))

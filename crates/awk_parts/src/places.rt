@@ -81,49 +81,48 @@ pub fn places_of<'a, L: Ledger>(
     made_lane(Kind::I64, count, &LocalPlaces { how, parts }, arena, steps)
 }
 
-/// The index of the parts that have a number.
+/// A mask of the parts that have a number.
 #[derive(Drop)]
 struct PresentParts<'c, 'b, 'a> {
     parts: &'c Parts<'b, 'a>,
 }
 
 impl<'c, 'b, 'a> Numbers for PresentParts<'c, 'b, 'a> {
-    ghost use Rattle.std.specs.Prelude.{◌<◌, ◌^◌};
     ghost use Rattle.awk_lanes.specs.declared.kind.Kind.TheVariants as Kind;
     ghost use Rattle.awk_numbers.specs.Folds.{whole_numbers};
     ghost use Rattle.awk_parts.specs.Lanes.{present_at};
     ghost use Rattle.awk_parts.specs.Spans.{span_count, AreSpanned};
 
-    ghost kind = { λ _. Kind.I64 };
+    ghost kind = { λ _. Kind.I8 };
 
     ghost at = { λ f. present_at (whole_numbers f.parts.now.numbers.now) f.parts.now.spans.now };
 
     ghost size = { λ f. span_count f.parts.now.spans.now };
 
-    ghost IsReady = { λ f. AreSpanned (whole_numbers f.parts.now.numbers.now) f.parts.now.spans.now
-        × (span_count f.parts.now.spans.now < 2 ^ 63) };
+    ghost IsReady = { λ f. AreSpanned (whole_numbers f.parts.now.numbers.now)
+        f.parts.now.spans.now };
 
-    fn number<L: Ledger>(&self, i: u64, steps: &mut Steps<L>) -> Num {
+    #[inline(always)]
+    fn number<L: Ledger>(&self, i: u64, _steps: &mut Steps<L>) -> Num {
         let span = span_of(self.parts, i);
         if span.start == span.stop {
-            Num::Int(-1)
+            Num::Int(0)
         } else {
-            number(i)
+            Num::Int(1)
         }
     }
 }
 
-/// The index of the parts that have a number: i for such a part, else -1.
+/// A mask of the parts that have a number: 1 for such a part, else 0.
 pub fn present_parts<'a, L: Ledger>(
     parts: &Parts,
     arena: &'a Arena,
     steps: &mut Steps<L>,
 ) -> Result<Lane<'a>, NoMemory>
-    requires parts { AreSpanned (whole_numbers parts.now.numbers.now) parts.now.spans.now }
-    requires fits { span_count parts.now.spans.now < 2 ^ 63 }
-    ensures { IfOk result (λ r. r ≡ lane_of Kind.I64 (span_count parts.now.spans.now)
+    requires { AreSpanned (whole_numbers parts.now.numbers.now) parts.now.spans.now }
+    ensures { IfOk result (λ r. r ≡ lane_of Kind.I8 (span_count parts.now.spans.now)
         (present_at (whole_numbers parts.now.numbers.now) parts.now.spans.now)) }
 {
     let count = parts.spans.starts.len() as u64;
-    made_lane(Kind::I64, count, &PresentParts { parts }, arena, steps)
+    made_lane(Kind::I8, count, &PresentParts { parts }, arena, steps)
 }

@@ -1,7 +1,7 @@
 -- What is made of lists whose items' numbers are ready: extremes and their places.
 use Rattle.std.proofs.Common.{◌≡◌, ℕ, ◌<◌, length, map, get_or, List, [], ◌∷◌, refl, ap, sym, ◌∙◌}
 use Rattle.std.proofs.Common.{subst, arith}
-use Rattle.std.specs.Prelude.{ℤ, pos, false, position, Option, Some, None}
+use Rattle.std.specs.Prelude.{ℤ, pos, true, false, position, Option, Some, None}
 use Rattle.std.specs.List.{slice_range}
 use Rattle.std.specs.Option.{option_and_then}
 use Rattle.std.specs.Ordering.{int_eq}
@@ -13,13 +13,12 @@ use Rattle.awk_types.specs.declared.primitive.Primitive.TheVariants as primitive
 use Rattle.awk_lanes.specs.Column.{Column}
 use Rattle.awk_lanes.specs.Made.{lane_of}
 use Rattle.awk_lanes.specs.Numbers.{element}
-use Rattle.awk_lanes.specs.Places.{index_or_null}
 use Rattle.awk_lanes.specs.declared.kind.Kind.{Kind}
-use Rattle.awk_lanes.specs.declared.kind.Kind.TheVariants.{I64}
+use Rattle.awk_lanes.specs.declared.kind.Kind.TheVariants.{I8, I64}
 use Rattle.awk_lanes.proofs.PlaceLaws.{element-element}
 use Rattle.awk_layout.specs.Item.{leaf_value, at_option}
 use Rattle.awk_layout.specs.Kinds.{kind_of, primitive_of, primitive_of-kind_of}
-use Rattle.awk_layout.specs.Layout.{Layout, flat, optional}
+use Rattle.awk_layout.specs.Layout.{Layout, flat, byte_masked}
 use Rattle.awk_layout.specs.Typing.{array_type}
 use Rattle.awk_list_functions.specs.Made.{IsColumn}
 use Rattle.awk_columns.specs.Lists.{Listed}
@@ -30,7 +29,7 @@ use Rattle.awk_numbers.specs.declared.extremes.Extreme.TheVariants.{Least, Great
 use Rattle.awk_numbers.proofs.PartLaws.{slice_range-map}
 use Rattle.awk_cells.specs.Extremes.{number_or_zero}
 use Rattle.awk_parts.specs.Lanes.{extreme_at, local_at, present_at, some_place}
-use Rattle.awk_parts.specs.Lanes.{place_or_zero}
+use Rattle.awk_parts.specs.Lanes.{mask_byte, place_or_zero}
 use Rattle.awk_parts.specs.Spans.{start_of, stop_of, span_count, span_part}
 use Rattle.awk_parts.specs.declared.parts.Spans.{Spans}
 use Rattle.awk_present.specs.Numbers.{leaf_of, numbers, number_place, extreme_place}
@@ -39,7 +38,7 @@ use Rattle.awk_reduce.specs.Reduce.{overflows}
 use Rattle.awk_reduce.specs.Reducers.{reduced, reduced_type, item_or_null, place_or_null}
 use Rattle.awk_reduce.specs.Totals.{item_reducer, place_reducer}
 use Rattle.awk_reduce.specs.declared.ready.ReadyLists.{ReadyLists}
-use Rattle.awk_reduce.proofs.ColumnLaws.{optional_column}
+use Rattle.awk_reduce.proofs.ColumnLaws.{masked_column}
 use Rattle.awk_reduce.proofs.ExtremeLaws.{extreme_found, extreme_none}
 use Rattle.awk_reduce.proofs.ReadyLaws.{AreNumbered, ready_numbered}
 
@@ -125,7 +124,7 @@ module _ (l : Listed) (n : ℕ) (zs : ℕ → List ℤ) (r : AreNumbered l n zs)
 
   -- which lists have a number
   abbrev pub chosen : ℕ → ℤ
-  chosen i = index_or_null i (there i)
+  chosen i = mask_byte (there i)
 
   leaf_type : (k : Kind) → k ≡ kind_of (leaf_of t) → leaf (primitive_of k) ≡ leaf (leaf_of t)
   leaf_type k e = ap leaf (ap primitive_of e ∙ primitive_of-kind_of (leaf_of t))
@@ -134,33 +133,33 @@ module _ (l : Listed) (n : ℕ) (zs : ℕ → List ℤ) (r : AreNumbered l n zs)
       → k ≡ kind_of (leaf_of t)
       → ((i : ℕ) → i < n → at_option (there i) (λ q. leaf_value k (element k (f i)))
       ≡ reduced (item_reducer how) t (vs i))
-      → c ≡ lane_of k n f → j ≡ lane_of I64 n chosen → y ≡ optional j (flat c)
+      → c ≡ lane_of k n f → j ≡ lane_of I8 n chosen → y ≡ byte_masked j true (flat c)
       → IsReduced (item_reducer how) t vs n (made.Singles y)
   extremes_made k f y j c ke here ce je ye =
       let value : ℕ → Value = λ i. reduced (item_reducer how) t (vs i) in
-      let same : y ≡ optional (lane_of I64 n chosen) (flat (lane_of k n f)) =
-      ye ∙ ap (λ j. optional j (flat c)) je
-      ∙ ap (λ c. optional (lane_of I64 n chosen) (flat c)) ce in (
+      let same : y ≡ byte_masked (lane_of I8 n chosen) true (flat (lane_of k n f)) =
+      ye ∙ ap (λ j. byte_masked j true (flat c)) je
+      ∙ ap (λ c. byte_masked (lane_of I8 n chosen) true (flat c)) ce in (
         λ i l. item_fits how t (vs i),
         subst (λ u. IsColumn u value n y) (ap opt (leaf_type k ke) ∙ item_type how t)
             (subst (IsColumn (opt (leaf (primitive_of k))) value n) (sym same)
-            (optional_column k n there f value r.fits here)),
+            (masked_column k n there f value r.fits here)),
       )
 
   pub places_made : (f : ℕ → ℤ) (y : Layout) (j c : Column)
       → ((i : ℕ) → i < n → at_option (there i) (λ q. int (f i))
       ≡ reduced (place_reducer how) t (vs i))
-      → c ≡ lane_of I64 n f → j ≡ lane_of I64 n chosen → y ≡ optional j (flat c)
+      → c ≡ lane_of I64 n f → j ≡ lane_of I8 n chosen → y ≡ byte_masked j true (flat c)
       → IsReduced (place_reducer how) t vs n (made.Singles y)
   places_made f y j c here ce je ye =
       let value : ℕ → Value = λ i. reduced (place_reducer how) t (vs i) in
-      let same : y ≡ optional (lane_of I64 n chosen) (flat (lane_of I64 n f)) =
-      ye ∙ ap (λ j. optional j (flat c)) je
-      ∙ ap (λ c. optional (lane_of I64 n chosen) (flat c)) ce in (
+      let same : y ≡ byte_masked (lane_of I8 n chosen) true (flat (lane_of I64 n f)) =
+      ye ∙ ap (λ j. byte_masked j true (flat c)) je
+      ∙ ap (λ c. byte_masked (lane_of I8 n chosen) true (flat c)) ce in (
         λ i l. place_fits how t (vs i),
         subst (λ u. IsColumn u value n y) (place_type how t)
             (subst (IsColumn (opt (leaf primitive.I64)) value n) (sym same)
-            (optional_column I64 n there f value r.fits here)),
+            (masked_column I64 n there f value r.fits here)),
       )
 
 -- ---- of lists whose items' numbers are ready
@@ -203,7 +202,7 @@ module _ (x : ReadyLists) (r : AreReady x) (how : Extreme) where
       ∙ item_value how item (values i)
 
   pub ready_extremes : (y : Layout) (j c : Column) → c ≡ lane_of k n (extreme_at how all p)
-      → j ≡ lane_of I64 n (present_at all p) → y ≡ optional j (flat c)
+      → j ≡ lane_of I8 n (present_at all p) → y ≡ byte_masked j true (flat c)
       → IsReduced (item_reducer how) item values n (made.Singles y)
   ready_extremes y j c =
       extremes_made x.lists.now n zs (ready_numbered x r) how k (extreme_at how all p) y j c r.kind
@@ -232,7 +231,7 @@ module _ (x : ReadyLists) (r : AreReady x) (how : Extreme) where
       ∙ place_value how item (values i)
 
   pub ready_places : (y : Layout) (j c : Column) → c ≡ lane_of I64 n (local_at how all p)
-      → j ≡ lane_of I64 n (present_at all p) → y ≡ optional j (flat c)
+      → j ≡ lane_of I8 n (present_at all p) → y ≡ byte_masked j true (flat c)
       → IsReduced (place_reducer how) item values n (made.Singles y)
   ready_places y j c =
       places_made x.lists.now n zs (ready_numbered x r) how (local_at how all p) y j c place_here

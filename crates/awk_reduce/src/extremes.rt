@@ -1,7 +1,8 @@
 //! The least and the greatest items, and their places.
-ghost use Rattle.std.specs.Prelude.{◌≡◌, ◌<◌, ◌^◌, IfOk};
-ghost use Rattle.awk_lanes.specs.Places.{size_of, IsOptionalIndex};
-ghost use Rattle.awk_layout.specs.Layout.{flat, optional};
+ghost use Rattle.std.specs.Prelude.{◌≡◌, ◌<◌, ◌^◌, true, IfOk};
+ghost use Rattle.awk_lanes.specs.Places.{size_of};
+ghost use Rattle.awk_layout.specs.Layout.{flat, byte_masked};
+ghost use Rattle.awk_layout.specs.Valid.{IsByteMask};
 ghost use Rattle.awk_reduce.specs.Lists.{AreReady, AreReduced};
 ghost use Rattle.awk_reduce.specs.Totals.{item_reducer, place_reducer};
 
@@ -15,20 +16,20 @@ use awk_types::NoMemory;
 use std::alloc::Global;
 use std::sync::ledger::Ledger;
 
-/// Numbers, and null where an index names none.
-pub(crate) fn indexed<'a, L: Ledger>(
+/// Numbers, and null where the byte of a mask is 0.
+pub(crate) fn masked<'a, L: Ledger>(
     alloc: Global,
-    index: Lane<'a>,
+    mask: Lane<'a>,
     numbers: Lane<'a>,
     steps: &mut Steps<L>,
 ) -> Result<Node<'a>, NoMemory>
-    requires length { size_of index < 2 ^ 63 }
+    requires length { size_of mask < 2 ^ 63 }
     requires size { size_of numbers < 2 ^ 63 }
-    requires valid { IsOptionalIndex index (size_of numbers) }
-    ensures { IfOk result (λ y. y ≡ optional index.entry (flat numbers.entry)) }
+    requires valid { IsByteMask mask (size_of numbers) }
+    ensures { IfOk result (λ y. y ≡ byte_masked mask.entry true (flat numbers.entry)) }
 {
     let content = Box::new(alloc, Node::numpy(numbers, steps))?;
-    Ok(Node::indexed_option(index, content, steps))
+    Ok(Node::byte_masked(mask, true, content, steps))
 }
 
 /// The least or the greatest item of each list.
@@ -48,8 +49,8 @@ pub(crate) fn extremes<'a, L: Ledger>(
         spans: x.spans,
     };
     let items = extremes_of(how, x.lane, &parts, arena, steps)?;
-    let index = present_parts(&parts, arena, steps)?;
-    Ok(Made::Singles(indexed(alloc, index, items, steps)?))
+    let mask = present_parts(&parts, arena, steps)?;
+    Ok(Made::Singles(masked(alloc, mask, items, steps)?))
 }
 
 /// The place of the least or of the greatest item of each list.
@@ -69,6 +70,6 @@ pub(crate) fn extreme_indexes<'a, L: Ledger>(
         spans: x.spans,
     };
     let places = places_of(how, &parts, arena, steps)?;
-    let index = present_parts(&parts, arena, steps)?;
-    Ok(Made::Singles(indexed(alloc, index, places, steps)?))
+    let mask = present_parts(&parts, arena, steps)?;
+    Ok(Made::Singles(masked(alloc, mask, places, steps)?))
 }

@@ -13,7 +13,7 @@ ghost use Rattle.awk_reduce.specs.Nullable.{AreLeafLists};
 ghost use Rattle.awk_reduce.specs.Reduce.{reducer_function};
 ghost use Rattle.awk_reduce.specs.Totals.{fold_reducer, tally_reducer, item_reducer, place_reducer};
 
-use crate::extremes::indexed;
+use crate::extremes::masked;
 use crate::reducer::Reducer;
 use crate::types::{leaf_of, wide};
 use awk_cells::Cell;
@@ -85,8 +85,8 @@ fn null_extremes<'a, P: Places, C: Cells, L: Ledger>(
         (size_of l.starts)) }
 {
     let items = extreme_lists(how, lane, lists, arena, steps)?;
-    let index = present_lists(lists, arena, steps)?;
-    Ok(Made::Singles(indexed(alloc, index, items, steps)?))
+    let mask = present_lists(lists, arena, steps)?;
+    Ok(Made::Singles(masked(alloc, mask, items, steps)?))
 }
 
 /// The place of the least or of the greatest item of each list.
@@ -104,8 +104,8 @@ fn null_places<'a, P: Places, C: Cells, L: Ledger>(
         (size_of l.starts)) }
 {
     let places = place_lists(how, lists, arena, steps)?;
-    let index = present_lists(lists, arena, steps)?;
-    Ok(Made::Singles(indexed(alloc, index, places, steps)?))
+    let mask = present_lists(lists, arena, steps)?;
+    Ok(Made::Singles(masked(alloc, mask, places, steps)?))
 }
 
 /// What is made of such lists.

@@ -1,12 +1,12 @@
 use Rattle.std.proofs.Common.{ap, sym, ◌∙◌, subst, arith}
 use Rattle.awk_lanes.specs.Column.{Column}
 use Rattle.awk_lanes.specs.Made.{lane_of}
-use Rattle.awk_lanes.specs.Places.{size_of, IsOptionalIndex}
-use Rattle.awk_lanes.specs.declared.kind.Kind.TheVariants.{I64}
-use Rattle.awk_parts.specs.Lanes.{some_place}
+use Rattle.awk_lanes.specs.Places.{size_of}
+use Rattle.awk_layout.specs.Valid.{IsByteMask}
+use Rattle.awk_lanes.specs.declared.kind.Kind.TheVariants.{I8}
 use Rattle.awk_nullable.specs.Numbers.{leaf_number}
 use Rattle.awk_nullable_lists.specs.Lists.{numbers_at, present_at, extreme_at}
-use Rattle.awk_reduce.proofs.ColumnLaws.{index_valid, size-made}
+use Rattle.awk_reduce.proofs.ColumnLaws.{mask_valid, size-made}
 use Rattle.awk_reduce.proofs.OptionLaws.{leaves_nullable, leaves_numbered, item_there}
 use Rattle.awk_reduce.proofs.PlaceLaws.{extremes_made}
 use Rattle.awk_reduce.proofs.nullable.null_extremes.Goals as goal
@@ -29,8 +29,8 @@ present_lists-requires g c =
     let lane = g.C.Cells.lane x.leaves.now.cells.now in
     record { ready = leaves_nullable l f m lane c.requires.lists }
 
-pub indexed-requires-clause-length : goal.indexed-requires-clause-length
-indexed-requires-clause-length g c =
+pub masked-requires-clause-length : goal.masked-requires-clause-length
+masked-requires-clause-length g c =
     let x = c.args.lists.now in
     let l = x.bounds.now in
     let f = g.P.Places.at x.leaves.now.places.now in
@@ -38,13 +38,13 @@ indexed-requires-clause-length g c =
     let lane = g.C.Cells.lane x.leaves.now.cells.now in
     omega (
       arith,
-      size-made c.in_ok-index.index I64 (size_of l.starts) (present_at l (leaf_number f lane))
-          c.in_ok-index.ensures,
+      size-made c.in_ok-mask.mask I8 (size_of l.starts) (present_at l (leaf_number f lane))
+          c.in_ok-mask.ensures,
       c.requires.lists.lists.fits,
     )
 
-pub indexed-requires-clause-size : goal.indexed-requires-clause-size
-indexed-requires-clause-size g c =
+pub masked-requires-clause-size : goal.masked-requires-clause-size
+masked-requires-clause-size g c =
     let x = c.args.lists.now in
     let l = x.bounds.now in
     let f = g.P.Places.at x.leaves.now.places.now in
@@ -57,8 +57,8 @@ indexed-requires-clause-size g c =
       c.requires.lists.lists.fits,
     )
 
-pub indexed-requires-clause-valid : goal.indexed-requires-clause-valid
-indexed-requires-clause-valid g c =
+pub masked-requires-clause-valid : goal.masked-requires-clause-valid
+masked-requires-clause-valid g c =
     let x = c.args.lists.now in
     let l = x.bounds.now in
     let f = g.P.Places.at x.leaves.now.places.now in
@@ -66,8 +66,8 @@ indexed-requires-clause-valid g c =
     let lane = g.C.Cells.lane x.leaves.now.cells.now in
     let way = leaf_number f lane in
     let n = size_of c.in_ok-items.items in
-    subst (λ j. IsOptionalIndex j n) (sym c.in_ok-index.ensures)
-    (index_valid (size_of l.starts) n (λ i. some_place (numbers_at l way i))
+    subst (λ j. IsByteMask j n) (sym c.in_ok-mask.ensures)
+    (mask_valid (size_of l.starts) n (present_at l way)
     (size-made c.in_ok-items.items c.args.lane.now.kind (size_of l.starts)
     (extreme_at c.args.how l way) c.in_ok-items.ensures))
 
@@ -85,6 +85,6 @@ returns g c =
     c.requires.lane in
     extremes_made l (size_of l.starts) (numbers_at l way)
     (leaves_numbered l f m lane c.requires.lists) c.args.how lane.kind
-    (extreme_at c.args.how l way) c.in_ok-indexed.field-0 c.in_ok-index.index c.in_ok-items.items
+    (extreme_at c.args.how l way) c.in_ok-masked.field-0 c.in_ok-mask.mask c.in_ok-items.items
     c.requires.lists.leaves.kind (item_there l f m lane c.requires.lists c.args.how)
-    items c.in_ok-index.ensures c.in_ok-indexed.ensures
+    items c.in_ok-mask.ensures c.in_ok-masked.ensures
