@@ -1,4 +1,5 @@
 mod NumberLaws
+mod CountLaws
 mod FindLaws
 pub mod BestLaws
 mod HalvesLaws

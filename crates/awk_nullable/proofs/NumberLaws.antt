@@ -1,5 +1,5 @@
 -- The numbers of a span of items, one item more.
-use Rattle.std.proofs.Common.{◌≡◌, ℕ, zero, suc, ◌+◌, ◌-◌, ◌<◌, ◌≤◌, List, []}
+use Rattle.std.proofs.Common.{◌≡◌, ℕ, zero, suc, ◌+◌, ◌≤◌, List, []}
 use Rattle.std.proofs.Common.{◌∷◌, ◌++◌, map, length, arith, refl, ap, ap₂, sym, ◌∙◌}
 use Rattle.std.specs.Prelude.{ℤ, Option, Some, None}
 use Rattle.std.specs.List.{range_with_len, flat_map}
@@ -37,11 +37,6 @@ module _ (g : ℕ → Option ℤ) where
       ∙ sym (append_assoc (here a) (numbers_from g (a + 1) n) (numbers_from g (a + 1 + n) m))
       ∙ ap (λ b. numbers_from g a (suc n) ++ numbers_from g b m) e
 
-  pub length-more : (a n : ℕ) → length (numbers_from g a (n + 1))
-      ≡ length (numbers_from g a n) + length (number_list (g (a + n)))
-  length-more a n =
-      ap length (numbers-more a n) ∙ length-append (numbers_from g a n) (number_list (g (a + n)))
-
   -- no more numbers than items
   pub numbers-few : (a n : ℕ) → length (numbers_from g a n) ≤ n
   numbers-few a zero = omega arith
@@ -56,42 +51,3 @@ module _ (g : ℕ → Option ℤ) where
       one : (o : Option ℤ) → length (number_list o) ≤ 1
       one None = omega arith
       one (Some z) = omega arith
-
-  -- ---- items that are left
-
-  -- the numbers of all items are those of the ones from one on
-  abbrev pub AreLeft : ℕ → ℕ → ℕ → Type 0
-  AreLeft a n i = numbers_from g a n ≡ numbers_from g (a + i) (n - i)
-
-  pub numbers_all : (a n : ℕ) → AreLeft a n 0
-  numbers_all a n =
-      let e : a ≡ a + 0 = omega arith in
-      let m : n ≡ n - 0 = omega arith in
-      ap₂ (numbers_from g) e m
-
-  numbers_next : (a n i : ℕ) → i < n → AreLeft a n i
-      → numbers_from g a n ≡ here (a + i) ++ numbers_from g (a + (i + 1)) (n - (i + 1))
-  numbers_next a n i l h =
-      let m : n - i ≡ suc (n - (i + 1)) = omega (arith, l) in
-      let e : a + i + 1 ≡ a + (i + 1) = omega arith in
-      h ∙ ap (numbers_from g (a + i)) m
-      ∙ ap (λ b. here (a + i) ++ numbers_from g b (n - (i + 1))) e
-
-  pub numbers_left : (a n i : ℕ) → i < n → g (a + i) ≡ None → AreLeft a n i → AreLeft a n (i + 1)
-  numbers_left a n i l e h =
-      numbers_next a n i l h
-      ∙ ap (λ o. number_list o ++ numbers_from g (a + (i + 1)) (n - (i + 1))) e
-
-  pub numbers_some : (a n i : ℕ) (z : ℤ) → i < n → g (a + i) ≡ Some z → AreLeft a n i
-      → numbers_from g a n ≡ [] → ⊥
-  numbers_some a n i z l e h none =
-      let full : z ∷ numbers_from g (a + (i + 1)) (n - (i + 1)) ≡ [] =
-      sym (numbers_next a n i l h
-      ∙ ap (λ o. number_list o ++ numbers_from g (a + (i + 1)) (n - (i + 1))) e)
-      ∙ none in
-      cc
-
-  pub numbers_end : (a n i : ℕ) → n ≤ i → AreLeft a n i → numbers_from g a n ≡ []
-  numbers_end a n i l h =
-      let m : n - i ≡ 0 = omega (arith, l) in
-      h ∙ ap (numbers_from g (a + i)) m

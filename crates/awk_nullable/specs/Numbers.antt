@@ -1,8 +1,8 @@
 -- The numbers of items of which some may be null, by the place in a lane of each.
 use Rattle.std.specs.Prelude.{◌≡◌, ◌≢◌, ℕ, ◌+◌, ◌<◌, ◌≤◌, ◌^◌, ℤ, Bool, true, false, List, []}
-use Rattle.std.specs.Prelude.{◌∷◌, Option, Some, None}
-use Rattle.std.specs.List.{range_with_len, flat_map}
-use Rattle.std.specs.Option.{option_map}
+use Rattle.std.specs.Prelude.{◌∷◌, map, Option, Some, None}
+use Rattle.std.specs.List.{range_with_len, flat_map, count_by}
+use Rattle.std.specs.Option.{is_some, option_map}
 use Rattle.awk_lanes.specs.Column.{Column}
 use Rattle.awk_lanes.specs.Places.{size_of, at}
 
@@ -17,6 +17,10 @@ number_list (Some z) = z ∷ []
 -- the numbers of n items from one on, those of nulls left out
 abbrev pub numbers_from : (ℕ → Option ℤ) → ℕ → ℕ → List ℤ
 numbers_from g first n = flat_map (λ i. number_list (g i)) (range_with_len first n)
+
+-- how many of n items from one on are not null
+abbrev pub present_count : (ℕ → Option ℕ) → ℕ → ℕ → ℕ
+present_count f first n = count_by is_some (map f (range_with_len first n))
 
 -- whether there is a number
 abbrev pub IsFilled : Bool → List ℤ → Type 0

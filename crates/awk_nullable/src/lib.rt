@@ -6,6 +6,7 @@
 //! summed by `sum_of`, multiplied by `product_of`, counted by `count_of` and judged by `tally_of`,
 //! and `is_some_there` tells whether there is one; `extreme_number` is the least or the greatest of
 //! them, and `place_of` where among the items it stands first. No lane of their numbers is made.
+//! The bytes of a mask are counted in blocks, and items that are all there not at all.
 //! Where even a null has a place that holds a number, that is read before the item is asked whether
 //! it is null (`Places::ahead`), and no branch is taken there.
 #![tactic(auto)]

@@ -1,9 +1,7 @@
 //! The numbers of items one after another, those of nulls left out.
-ghost use Rattle.std.specs.Prelude.{◌≡◌, ◌<◌, ◌≤◌, ℕ, ℤ, true, [], length};
-ghost use Rattle.std.specs.Prelude.{unsigned_abs, IfSome};
-ghost use Rattle.std.specs.Option.{option_map};
+ghost use Rattle.std.specs.Prelude.{◌≡◌, ◌<◌, ◌≤◌, true, [], length, unsigned_abs, IfSome};
 ghost use Rattle.awk_lanes.specs.Places.{size_of};
-ghost use Rattle.awk_nullable.specs.Numbers.{leaf_number, number_list, numbers_from};
+ghost use Rattle.awk_nullable.specs.Numbers.{leaf_number, numbers_from};
 ghost use Rattle.awk_nullable.specs.Numbers.{AreItems, AreLeading, AreAhead, IsFilled};
 
 use crate::cells::Cells;
@@ -139,18 +137,6 @@ pub(crate) fn total_of<T: Total, P: Places, C: Cells, L: Ledger>(
     total_by(false, none, x, first, count, steps)
 }
 
-/// 1 for an item that is there, else 0.
-#[inline(always)]
-fn one_if_there(place: Option<u64>) -> u64
-    ensures one { (h : ℕ → ℤ) → result ≡ length (number_list (option_map h place)) }
-    ensures small { result ≤ 1 }
-{
-    match place {
-        Some(_) => 1,
-        None => 0,
-    }
-}
-
 /// How many of so many items from a first one on are not null.
 pub fn count_of<P: Places, C: Cells, L: Ledger>(
     x: &Leaves<'_, P, C>,
@@ -164,11 +150,7 @@ pub fn count_of<P: Places, C: Cells, L: Ledger>(
         (C.lane x.now.cells.now)) first count) }
     ensures few { result ≤ count }
 {
-    let mut present: u64 = 0;
-    for i in 0..count {
-        present += one_if_there(x.places.place(first + i, steps));
-    }
-    present
+    x.places.present(first, count, steps)
 }
 
 /// Whether one of so many items from a first one on is not null.
@@ -183,11 +165,5 @@ pub fn is_some_there<P: Places, C: Cells, L: Ledger>(
     ensures { IsFilled result (numbers_from (leaf_number (P.at x.now.places.now)
         (C.lane x.now.cells.now)) first count) }
 {
-    for i in 0..count {
-        match x.places.place(first + i, steps) {
-            Some(_) => return true,
-            None => {}
-        }
-    }
-    false
+    x.places.shows_some(first, count, steps)
 }

@@ -1,6 +1,9 @@
 //! Where the numbers of items lie, of which some may be null.
-ghost use Rattle.std.specs.Prelude.{◌≡◌, ◌<◌, true, length, [], get_or};
-ghost use Rattle.awk_lanes.specs.Numbers.{number as number_of, is_nonzero};
+ghost use Rattle.std.specs.Prelude.{◌≡◌, ◌-◌, ◌<◌, ◌≤◌, true, cond, length, map, [], ◌∷◌};
+ghost use Rattle.std.specs.Prelude.{get_or};
+ghost use Rattle.std.specs.List.{count_by};
+ghost use Rattle.std.specs.Option.{is_some};
+ghost use Rattle.awk_lanes.specs.Numbers.{number as number_of, is_nonzero, AreBytes};
 ghost use Rattle.awk_lanes.specs.Places.{size_of};
 ghost use Rattle.awk_lanes.specs.declared.kind.Kind.TheVariants as Kind;
 ghost use Rattle.awk_layout.specs.Item.{agrees as agrees_of};
@@ -8,6 +11,7 @@ ghost use Rattle.awk_nullable.specs.Masks.{if_shown};
 
 use crate::cells::Cells;
 use awk_bits::Bits;
+use awk_cells::count_set;
 use awk_index::Index;
 use awk_lanes::Steps;
 use awk_narrow::NarrowIndex;
@@ -15,8 +19,8 @@ use std::sync::ledger::Ledger;
 
 /// Where the numbers of items lie.
 pub trait Places {
-    ghost use Rattle.std.specs.Prelude.{ℕ, Option};
-    ghost use Rattle.awk_nullable.specs.Numbers.{AreItems, AreAhead};
+    ghost use Rattle.std.specs.Prelude.{ℕ, ◌+◌, ◌≤◌, ◌^◌, nat_lt, Option};
+    ghost use Rattle.awk_nullable.specs.Numbers.{AreItems, AreAhead, present_count};
 
     /// The place of an item's number, or none where the item is null.
     ghost at: { Self → ℕ → Option ℕ };
@@ -48,6 +52,50 @@ pub trait Places {
         requires { AreItems (at self.now) (size self.now) (C.lane cells.now) first count }
         ensures { result ≡ true → AreAhead (ahead self.now) first count
             (size_of (C.lane cells.now)) };
+
+    /// How many of so many items from a first one on are not null. Each is asked, where many are
+    /// not told of at once.
+    fn present<L: Ledger>(&self, first: u64, count: u64, steps: &mut Steps<L>) -> u64
+        requires within { 0 < count → first + count ≤ size self.now }
+        requires small { first + count < 2 ^ 63 }
+        requires few { count ≤ 1073741824 }
+        ensures { result ≡ present_count (at self.now) first count }
+    {
+        let mut present: u64 = 0;
+        for i in 0..count {
+            present += one_if_there(self.place(first + i, steps));
+        }
+        present
+    }
+
+    /// Whether one of so many items from a first one on is not null. The first one that is not is
+    /// the last that is asked, where many are not told of at once.
+    fn shows_some<L: Ledger>(&self, first: u64, count: u64, steps: &mut Steps<L>) -> bool
+        requires within { 0 < count → first + count ≤ size self.now }
+        requires small { first + count < 2 ^ 63 }
+        requires few { count ≤ 1073741824 }
+        ensures { result ≡ nat_lt 0 (present_count (at self.now) first count) }
+    {
+        for i in 0..count {
+            match self.place(first + i, steps) {
+                Some(_) => return true,
+                None => {}
+            }
+        }
+        false
+    }
+}
+
+/// 1 for an item that is there, else 0.
+#[inline(always)]
+fn one_if_there(place: Option<u64>) -> u64
+    ensures one { result ≡ cond (is_some place) 1 0 }
+    ensures small { result ≤ 1 }
+{
+    match place {
+        Some(_) => 1,
+        None => 0,
+    }
 }
 
 /// Whether a byte or bit says that an item is there.
@@ -148,6 +196,35 @@ fn byte_shows(mask: &ByteMask, i: u64) -> bool
     agrees(mask.valid_when, set)
 }
 
+/// How many bytes of a mask are not 0, counted in blocks.
+#[inline(always)]
+fn set_bytes(bytes: &[u8]) -> u64
+    requires bytes { AreBytes bytes.now }
+    requires few { length bytes.now ≤ 1073741824 }
+    ensures { result ≡ count_by is_nonzero (map (number_of Kind.I8) (map (λ b. b ∷ []) bytes.now)) }
+{
+    count_set(bytes)
+}
+
+/// The same of bytes each in a group of its own.
+#[inline(always)]
+fn set_in(groups: &[[u8; 1]]) -> u64
+    requires few { length groups.now ≤ 1073741824 }
+    ensures { result ≡ count_by is_nonzero (map (number_of Kind.I8) groups.now) }
+{
+    let bytes = groups.as_flattened();
+    set_bytes(bytes)
+}
+
+/// How many of so many bytes say that an item is there, by how many are not 0.
+#[inline(always)]
+fn agreeing(valid_when: bool, set: u64, count: u64) -> u64
+    requires { set ≤ count }
+    ensures { result ≡ cond valid_when set (count - set) }
+{
+    if valid_when { set } else { count - set }
+}
+
 impl<'a> Places for ByteMask<'a> {
     ghost use Rattle.std.specs.Prelude.{length};
     ghost use Rattle.awk_nullable.specs.Masks.{byte_place};
@@ -176,6 +253,20 @@ impl<'a> Places for ByteMask<'a> {
     #[inline(always)]
     fn reaches<C: Cells>(&self, cells: &C, first: u64, count: u64) -> bool {
         first + count <= cells.len()
+    }
+
+    #[inline(always)]
+    fn present<L: Ledger>(&self, first: u64, count: u64, _steps: &mut Steps<L>) -> u64 {
+        if count == 0 {
+            return 0;
+        }
+        let part = &self.bytes[first as usize..(first + count) as usize];
+        agreeing(self.valid_when, set_in(part), count)
+    }
+
+    #[inline(always)]
+    fn shows_some<L: Ledger>(&self, first: u64, count: u64, steps: &mut Steps<L>) -> bool {
+        self.present(first, count, steps) > 0
     }
 }
 
@@ -250,5 +341,15 @@ impl Places for Every {
     #[inline(always)]
     fn reaches<C: Cells>(&self, cells: &C, first: u64, count: u64) -> bool {
         first + count <= cells.len()
+    }
+
+    #[inline(always)]
+    fn present<L: Ledger>(&self, _first: u64, count: u64, _steps: &mut Steps<L>) -> u64 {
+        count
+    }
+
+    #[inline(always)]
+    fn shows_some<L: Ledger>(&self, _first: u64, count: u64, _steps: &mut Steps<L>) -> bool {
+        count > 0
     }
 }

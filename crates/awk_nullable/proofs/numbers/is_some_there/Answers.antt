@@ -1,13 +1,14 @@
-use Rattle.std.proofs.Common.{ap, sym, ◌∙◌}
-use Rattle.std.specs.Option.{option_map}
-use Rattle.awk_lanes.specs.Places.{at}
-use Rattle.awk_nullable.specs.Numbers.{leaf_number}
-use Rattle.awk_nullable.proofs.NumberLaws.{numbers_left}
+use Rattle.std.proofs.Common.{sym, subst}
+use Rattle.std.specs.Prelude.{nat_lt}
+use Rattle.awk_nullable.specs.Numbers.{leaf_number, numbers_from, present_count, IsFilled}
+use Rattle.awk_nullable.proofs.CountLaws.{present_filled}
 use Rattle.awk_nullable.proofs.numbers.is_some_there.Goals as goal
 
-pub loop-i-preserved : goal.loop-i-preserved
-loop-i-preserved g c =
+pub returns : goal.returns
+returns g c =
     let lane = g.C.Cells.lane c.args.x.now.cells.now in
-    let f = leaf_number (g.P.Places.at c.args.x.now.places.now) lane in
-    numbers_left f c.args.first c.args.count c.loop-i.i c.loop-i-test.true
-    (ap (option_map (at lane)) (sym c.place.ensures ∙ c.in-None.is)) c.loop-i.invariant
+    let f = g.P.Places.at c.args.x.now.places.now in
+    let zs = numbers_from (leaf_number f lane) c.args.first c.args.count in
+    subst (λ b. IsFilled b zs) {x = nat_lt 0 (present_count f c.args.first c.args.count)}
+    (sym c.shows_some.ensures)
+    (present_filled f lane c.args.first c.args.count)
