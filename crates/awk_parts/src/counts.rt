@@ -76,11 +76,14 @@ pub(crate) fn truth_counts<'a, L: Ledger>(
         (tallied_at tally.Nonzero (whole_numbers parts.now.numbers.now) parts.now.spans.now)) }
 {
     let count = parts.spans.starts.len() as u64;
-    made_lane(
-        Kind::I64,
-        count,
-        &TruthCounts { bytes, parts },
-        arena,
-        steps,
-    )
+    let spans = *parts.spans;
+    let parts = Parts {
+        numbers: parts.numbers,
+        spans: &spans,
+    };
+    let counts = TruthCounts {
+        bytes,
+        parts: &parts,
+    };
+    made_lane(Kind::I64, count, &counts, arena, steps)
 }

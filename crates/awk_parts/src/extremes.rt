@@ -105,7 +105,16 @@ fn wide_extremes_of<'a, L: Ledger>(
         (extreme_at how (whole_numbers parts.now.numbers.now) parts.now.spans.now)) }
 {
     let count = parts.spans.starts.len() as u64;
-    let extremes = WideExtremes { how, groups, parts };
+    let spans = *parts.spans;
+    let parts = Parts {
+        numbers: parts.numbers,
+        spans: &spans,
+    };
+    let extremes = WideExtremes {
+        how,
+        groups,
+        parts: &parts,
+    };
     made_lane(Kind::I64, count, &extremes, arena, steps)
 }
 

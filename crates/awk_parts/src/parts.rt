@@ -13,7 +13,8 @@ use awk_numbers::Whole;
 use std::sync::ledger::Ledger;
 
 /// Where parts of numbers begin and end: part i from start i below stop i, each the bytes of an
-/// i64.
+/// i64. Loops that count, test or compare numbers take a copy, so that where the ends lie is not
+/// looked up at each part.
 #[derive(Clone, Copy)]
 pub struct Spans<'a> {
     pub starts: &'a [[u8; 8]],

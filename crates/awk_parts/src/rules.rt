@@ -149,9 +149,14 @@ fn rule_lane<'a, const W: usize, C: Cell<W>, R: Rule<W, C>, L: Ledger>(
         (tallied_at R.how (whole_numbers parts.now.numbers.now) parts.now.spans.now)) }
 {
     let count = parts.spans.starts.len() as u64;
+    let spans = *parts.spans;
+    let parts = Parts {
+        numbers: parts.numbers,
+        spans: &spans,
+    };
     let tallies: CellTallies<'_, '_, '_, W, C, R> = CellTallies {
         groups,
-        parts,
+        parts: &parts,
         cell: PhantomData,
         rule: PhantomData,
     };

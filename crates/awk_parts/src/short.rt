@@ -82,11 +82,16 @@ pub(crate) fn short_extremes<'a, const W: usize, C: Cell<W>, L: Ledger>(
         (extreme_at how (lane_numbers lane.now) parts.now.spans.now)) }
 {
     let count = parts.spans.starts.len() as u64;
+    let spans = *parts.spans;
+    let parts = Parts {
+        numbers: parts.numbers,
+        spans: &spans,
+    };
     let extremes: ShortExtremes<'_, '_, '_, W, C> = ShortExtremes {
         how,
         lane,
         groups,
-        parts,
+        parts: &parts,
         cell: PhantomData,
     };
     made_lane(lane.kind(), count, &extremes, arena, steps)
