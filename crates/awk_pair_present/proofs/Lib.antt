@@ -1,2 +1,3 @@
 mod OneOption
 mod PresenceLaws
+mod MaskedNumbers

@@ -11,7 +11,6 @@ use Rattle.std.proofs.lemmas.Simd.{map-map}
 use Rattle.awk_base.proofs.Ranges.{map-in, flat-in}
 use Rattle.awk_base.proofs.Lists.{drop-get, take-get}
 use Rattle.awk_types.specs.Simple.{is_option, present}
-use Rattle.awk_types.specs.Value.{row}
 use Rattle.awk_types.proofs.SimpleLaws.{present_stays}
 use Rattle.awk_lanes.specs.Column.{Column}
 use Rattle.awk_lanes.specs.Counted.{before, offsets_by}

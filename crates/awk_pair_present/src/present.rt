@@ -12,7 +12,7 @@ ghost use Rattle.awk_layout.specs.Layout.{Layout};
 ghost use Rattle.awk_pair_present.specs.Presence.{AreAsLong, ArePresences};
 ghost use Rattle.awk_pair_present.specs.Present.{IsPresentRows};
 
-use crate::numbers::present_numbers;
+use crate::numbers::{masked_numbers, present_numbers};
 use crate::presence::{Presence, all_taken, are_there, presences_of};
 use awk_columns::places_of;
 use awk_index::index_of;
@@ -165,7 +165,7 @@ fn option_in_order<'a, L: Ledger>(
     match content.node().class() {
         Class::Numpy { lane } => {
             let index = index_of(alloc, index, arena, steps)?;
-            present_numbers(alloc, &index, content, lane, arena, steps)
+            present_numbers(alloc, &index, lane, arena, steps)
         }
         _ => in_order(alloc, x, arena, steps),
     }
@@ -191,7 +191,36 @@ fn numbers_in_order<'a, L: Ledger>(
     }
 }
 
-/// An option in order. Numbers behind an index are moved at once, without a lane of their places.
+/// A mask of bytes over numbers, in order, or none of another array.
+fn masked_in_order<'a, L: Ledger>(
+    alloc: Global,
+    x: &Array<'a>,
+    arena: &'a Arena,
+    steps: &mut Steps<L>,
+) -> Result<Option<Opened<'a>>, NoMemory>
+    ensures opened { IfOk result (λ o. IfSome o (IsOpened x.now)) }
+    ensures inner { IfOk result (λ o. IfSome o IsInner) }
+    ensures order { IfOk result (λ o. IfSome o (IsInOrder (array_items x.now))) }
+{
+    let _ = x.len();
+    match x.node().class() {
+        Class::ByteMasked {
+            mask,
+            valid_when,
+            content,
+        } => match content.class() {
+            Class::Numpy { lane } => {
+                let numbers = masked_numbers(alloc, mask, valid_when, lane, arena, steps)?;
+                Ok(Some(numbers))
+            }
+            _ => Ok(None),
+        },
+        _ => Ok(None),
+    }
+}
+
+/// An option in order. Numbers behind an index or a mask of bytes are moved at once, without a lane
+/// of their places; and a mask of bytes is not made an index of all items.
 fn ordered<'a, L: Ledger>(
     alloc: Global,
     x: &Array<'a>,
@@ -203,6 +232,9 @@ fn ordered<'a, L: Ledger>(
     ensures inner { IfOk result IsInner }
     ensures order { IfOk result (IsInOrder (array_items x.now)) }
 {
+    if let Some(numbers) = masked_in_order(alloc, x, arena, steps)? {
+        return Ok(numbers);
+    }
     if has_numbers(x) {
         return numbers_in_order(alloc, x, arena, steps);
     }
