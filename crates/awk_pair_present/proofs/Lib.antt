@@ -1,3 +1,4 @@
 mod OneOption
 mod PresenceLaws
 mod MaskedNumbers
+mod KeptMasks

@@ -13,7 +13,7 @@ use Rattle.awk_base.proofs.Lists.{drop-get, take-get}
 use Rattle.awk_types.specs.Simple.{is_option, present}
 use Rattle.awk_types.proofs.SimpleLaws.{present_stays}
 use Rattle.awk_lanes.specs.Column.{Column}
-use Rattle.awk_lanes.specs.Counted.{before, offsets_by}
+use Rattle.awk_lanes.specs.Counted.{before}
 use Rattle.awk_lanes.specs.Made.{lane_of}
 use Rattle.awk_lanes.specs.Numbers.{nat_of}
 use Rattle.awk_lanes.specs.Places.{size_of, at, place_at, option_place, IsIndex}
@@ -31,7 +31,7 @@ use Rattle.awk_columns.specs.Columns.{is_present}
 use Rattle.awk_pair_sides.specs.Levels.{some_option}
 use Rattle.awk_pair_present.specs.Presence.{is_some, is_there, are_there}
 use Rattle.awk_pair_present.specs.Presence.{IsPresence, ArePresences, IsAsLong, AreAsLong}
-use Rattle.awk_pair_present.specs.Presence.{kept_length, count_at, presence_at, presence_column}
+use Rattle.awk_pair_present.specs.Presence.{kept_length, presence_at, presence_column}
 use Rattle.awk_pair_present.specs.Presence.{AreKeptOf, AllKeptOf, AreThereAt, IsTaken, AreTaken}
 use Rattle.awk_pair_sides.specs.Rows.{row_at, rows_at, flags_index}
 use Rattle.awk_pair_present.specs.Present.{ArePresent}
@@ -367,34 +367,11 @@ kept_positive n ps ks e =
     subst (λ w. (q : ℕ) → q < size_of w → pos 0 ≤ℤ at w q) (sym e)
     (λ q a. ((repeats_index (kept_length ps) n).places q a).0)
 
-pub counts_within : (ps : List Presence) (n i : ℕ) (o : Column)
-    → o ≡ offsets_by (kept_length ps) n → i < n → i < size_of o
-counts_within ps n i o e h =
-    omega (
-      arith,
-      h,
-      ap size_of e,
-      size-lane_of I64 (n + 1) (λ j. pos (before (kept_length ps) j)),
-    )
-
-pub counts_at : (ps : List Presence) (n i : ℕ) (o : Column)
-    → o ≡ offsets_by (kept_length ps) n → i < n → at o i ≡ pos (before (kept_length ps) i)
-counts_at ps n i o e h =
-    ap (λ c. at c i) e
-    ∙ at-lane_of I64 (n + 1) (λ j. pos (before (kept_length ps) j)) i (omega (arith, h))
-
-pub counts_positive : (ps : List Presence) (n i : ℕ) (o : Column)
-    → o ≡ offsets_by (kept_length ps) n → i < n → pos 0 ≤ℤ at o i
-counts_positive ps n i o e h =
-    subst (λ z. pos 0 ≤ℤ z) (sym (counts_at ps n i o e h)) (omega (arith, ints))
-
-pub count_kept : (ps : List Presence) (i : ℕ) (z : ℤ) (k : ℕ) → are_there ps i ≡ true → z ≡ pos k
-    → k ≡ before (kept_length ps) i → z ≡ count_at ps i
-count_kept ps i z k e f g =
-    f ∙ ap (λ j. pos j) g
-    ∙ ap (λ b. if b then pos (before (kept_length ps) i) else negsuc 0) (sym e)
-
 -- ---- the index
+
+-- counting up where a row is kept, else -1
+abbrev pub count_at : List Presence → ℕ → ℤ
+count_at ps i = if are_there ps i then pos (before (kept_length ps) i) else negsuc 0
 
 abbrev count_by : (ℕ → Bool) → ℕ → ℕ
 count_by w i = before (λ j. one_if (w j)) i

@@ -1,11 +1,10 @@
 -- Which items of operands are there, and the rows in which all are.
-use Rattle.std.specs.Prelude.{◌≡◌, ℕ, ◌<◌, ◌≤ℤ◌, ◌^◌, Bool, true, false, List, [], ◌∷◌, filter}
-use Rattle.std.specs.Prelude.{ℤ, pos, negsuc, Option, Some, None, if◌then◌else◌}
-use Rattle.std.specs.List.{list_all, range_with_len}
+use Rattle.std.specs.Prelude.{◌≡◌, ℕ, ◌<◌, ◌≤ℤ◌, ◌^◌, Bool, true, false, List, [], ◌∷◌}
+use Rattle.std.specs.Prelude.{ℤ, pos, Option, Some, None, if◌then◌else◌}
+use Rattle.std.specs.List.{list_all}
 use Rattle.awk_types.specs.Simple.{is_option, present}
 use Rattle.awk_types.specs.Value.{Value}
 use Rattle.awk_lanes.specs.Column.{Column}
-use Rattle.awk_lanes.specs.Counted.{before, items_lane}
 use Rattle.awk_lanes.specs.declared.kind.Kind.TheVariants.{I64}
 use Rattle.awk_lanes.specs.Places.{size_of, at, place_at, option_place_at, IsOptionKind}
 use Rattle.awk_lanes.specs.Places.{IsOptionalIndex}
@@ -15,8 +14,6 @@ use Rattle.awk_layout.specs.Typing.{array_type}
 use Rattle.awk_layout.specs.Valid.{len}
 use Rattle.awk_gather.specs.Arrays.{array_item}
 use Rattle.awk_columns.specs.Columns.{is_present}
-use Rattle.awk_pair_sides.specs.Rows.{row_at}
-use Rattle.awk_pair_sides.specs.Sides.{is_whole}
 use Rattle.awk_pair_present.specs.declared.presence.Presence.{Presence}
 use Rattle.awk_pair_present.specs.declared.presence.Presence.TheVariants.{All, Indexed}
 
@@ -72,16 +69,9 @@ AreAsLong n (p ∷ ps) = IsAsLong n p × AreAsLong n ps
 abbrev pub kept_length : List Presence → ℕ → ℕ
 kept_length ps i = if are_there ps i then 1 else 0
 
--- the places of the kept rows among the first n
-abbrev pub kept_lane : List Presence → ℕ → Column
-kept_lane ps n = items_lane I64 (kept_length ps) (λ i k. pos i) n
-
--- counting up where a row is kept, else -1
-abbrev pub count_at : List Presence → ℕ → ℤ
-count_at ps i = if are_there ps i then pos (before (kept_length ps) i) else negsuc 0
-
-abbrev pub kept_places : List Layout → ℕ → List ℕ
-kept_places xs n = filter (λ i. is_whole (row_at xs i)) (range_with_len 0 n)
+-- that as the byte of a mask
+abbrev pub kept_byte : List Presence → ℕ → ℤ
+kept_byte ps i = pos (kept_length ps i)
 
 -- an item, and the column that it lies in
 abbrev pub presence_at : Presence → ℕ → Value

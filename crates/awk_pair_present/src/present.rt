@@ -15,14 +15,15 @@ ghost use Rattle.awk_pair_present.specs.Present.{IsPresentRows};
 use crate::numbers::{masked_numbers, present_numbers};
 use crate::presence::{Presence, all_taken, are_there, presences_of};
 use awk_columns::places_of;
+use awk_counts::{count_present, counted};
 use awk_index::index_of;
 use awk_lanes::{
     Arena, Items, Kind, Lane, Lengths, NoMemory, Num, Numbers, Steps, made_lane, number,
-    offsets_of, place_in,
 };
 use awk_layout::{Array, Arrays, Class};
 use awk_list_numbers::has_numbers;
-use awk_open::{Opened, in_order, opened};
+use awk_narrow::OptionIndex;
+use awk_open::{MaskIndex, Opened, in_order, mask_index, opened};
 use awk_types::is_optional;
 use std::alloc::Global;
 use std::sync::ledger::Ledger;
@@ -35,33 +36,62 @@ pub struct PresentRows<'a> {
     pub arrays: Arrays<'a>,
 }
 
-/// The rows that are kept, each as a list of its place, and each other one as an empty list.
+/// The rows of operands by their items that are there: a byte for each row, 1 where all items are
+/// there, else 0.
 #[derive(Drop)]
 struct KeptRows<'b, 'a> {
     presences: &'b [Presence<'a>],
     rows: u64,
 }
 
-impl<'b, 'a> Lengths for KeptRows<'b, 'a> {
-    ghost use Rattle.std.specs.Prelude.{◌<◌, ◌^◌};
-    ghost use Rattle.awk_pair_present.specs.Presence.{kept_length, AreAsLong};
+impl<'b, 'a> Numbers for KeptRows<'b, 'a> {
+    ghost use Rattle.awk_lanes.specs.declared.kind.Kind.TheVariants as Kind;
+    ghost use Rattle.awk_pair_present.specs.Presence.{kept_byte, AreAsLong};
 
-    ghost length = { λ f. kept_length f.presences.now };
+    ghost kind = { λ _. Kind.I8 };
+
+    ghost at = { λ f. kept_byte f.presences.now };
 
     ghost size = { λ f. f.rows };
 
-    ghost IsReady = { λ f. AreAsLong f.rows f.presences.now × (f.rows < 2 ^ 63) };
+    ghost IsReady = { λ f. AreAsLong f.rows f.presences.now };
 
-    fn length<L: Ledger>(&self, i: u64, _steps: &mut Steps<L>) -> u64 {
+    fn number<L: Ledger>(&self, i: u64, _steps: &mut Steps<L>) -> Num {
         if are_there(self.presences, self.rows, i) {
-            1
+            Num::Int(1)
         } else {
-            0
+            Num::Int(0)
         }
     }
 }
 
-impl<'b, 'a> Items for KeptRows<'b, 'a> {
+/// The rows that a mask shows, each as a list of its place, and each other one as an empty list.
+#[derive(Drop)]
+struct ShownRows<'b, 'a> {
+    index: &'b MaskIndex<'a>,
+}
+
+impl<'b, 'a> Lengths for ShownRows<'b, 'a> {
+    ghost use Rattle.std.specs.Prelude.{◌<◌, ◌^◌, length};
+    ghost use Rattle.awk_lanes.specs.Places.{size_of};
+    ghost use Rattle.awk_counts.specs.Counted.{present_at};
+
+    ghost length = { λ f i. length (present_at f.index.now i) };
+
+    ghost size = { λ f. size_of f.index.now };
+
+    ghost IsReady = { λ f. size_of f.index.now < 2 ^ 63 };
+
+    #[inline(always)]
+    fn length<L: Ledger>(&self, i: u64, _steps: &mut Steps<L>) -> u64 {
+        match self.index.place(i) {
+            Some(_) => 1,
+            None => 0,
+        }
+    }
+}
+
+impl<'b, 'a> Items for ShownRows<'b, 'a> {
     ghost use Rattle.std.specs.Prelude.{pos};
     ghost use Rattle.awk_lanes.specs.declared.kind.Kind.TheVariants as Kind;
 
@@ -69,44 +99,14 @@ impl<'b, 'a> Items for KeptRows<'b, 'a> {
 
     ghost at = { λ _ i k. pos i };
 
+    #[inline(always)]
     fn item<L: Ledger>(&self, i: u64, _k: u64, _steps: &mut Steps<L>) -> Num {
         number(i)
     }
 }
 
-/// How many rows before each are kept, or -1 where a row is not.
-#[derive(Drop)]
-struct KeptCounts<'b, 'a> {
-    rows: &'b KeptRows<'b, 'a>,
-    offsets: &'b Lane<'a>,
-}
-
-impl<'b, 'a> Numbers for KeptCounts<'b, 'a> {
-    ghost use Rattle.std.specs.Prelude.{◌≡◌, ◌<◌, ◌^◌};
-    ghost use Rattle.awk_lanes.specs.declared.kind.Kind.TheVariants as Kind;
-    ghost use Rattle.awk_lanes.specs.Counted.{offsets_by};
-    ghost use Rattle.awk_pair_present.specs.Presence.{count_at, kept_length, AreAsLong};
-
-    ghost kind = { λ _. Kind.I64 };
-
-    ghost at = { λ f. count_at f.rows.now.presences.now };
-
-    ghost size = { λ f. f.rows.now.rows };
-
-    ghost IsReady = { λ f. AreAsLong f.rows.now.rows f.rows.now.presences.now
-        × (f.rows.now.rows < 2 ^ 63)
-        × (f.offsets.now ≡ offsets_by (kept_length f.rows.now.presences.now) f.rows.now.rows) };
-
-    fn number<L: Ledger>(&self, i: u64, steps: &mut Steps<L>) -> Num {
-        if are_there(self.rows.presences, self.rows.rows, i) {
-            number(place_in(self.offsets, i, steps))
-        } else {
-            Num::Int(-1)
-        }
-    }
-}
-
-/// The rows without a null, of operands by their items that are there.
+/// The rows without a null, of operands by their items that are there. Each row is asked once, and
+/// put down in a mask: that tells how many there are, where they lie and their index.
 fn kept_rows<'a, L: Ledger>(
     alloc: Global,
     n: u64,
@@ -120,14 +120,11 @@ fn kept_rows<'a, L: Ledger>(
         IfOk result (IsPresentRows n xs) }
 {
     let rows = KeptRows { presences, rows: n };
-    let offsets = offsets_of(n, &rows, arena, steps)?;
-    let count = offsets.total;
-    let places = places_of(n, count, &rows, arena, steps)?;
-    let counts = KeptCounts {
-        rows: &rows,
-        offsets: &offsets.lane,
-    };
-    let index = made_lane(Kind::I64, n, &counts, arena, steps)?;
+    let mask = made_lane(Kind::I8, n, &rows, arena, steps)?;
+    let shown = mask_index(&mask, true, steps);
+    let count = count_present(&shown);
+    let places = places_of(n, count, &ShownRows { index: &shown }, arena, steps)?;
+    let index = counted(&shown, arena)?;
     let arrays = all_taken(alloc, presences, n, &places, arena, steps)?;
     Ok(PresentRows {
         index,
