@@ -1,7 +1,7 @@
 -- Options of numbers that lie in a lane, by an index or by a mask.
 use Rattle.std.proofs.Common.{◌≡◌, ℕ, ◌*◌, ◌/◌, ◌<◌, List, [], ◌∷◌, length, get_or, refl, ap}
 use Rattle.std.proofs.Common.{sym, ◌∙◌, arith}
-use Rattle.std.specs.Prelude.{ℤ, pos, negsuc, ◌<ℤ◌, Bool, true, false, Option, Some, if◌then◌else◌}
+use Rattle.std.specs.Prelude.{ℤ, pos, negsuc, ◌<ℤ◌, Bool, true, false, Some, if◌then◌else◌}
 use Rattle.std.specs.Simd.{first_chunks}
 use Rattle.std.proofs.lemmas.Int.{ints}
 use Rattle.std.proofs.lemmas.List.FromFn.{length-map-range_with_len, get_or-map-range_with_len}
@@ -13,7 +13,6 @@ use Rattle.awk_types.proofs.NullLaws.{in_option-same}
 use Rattle.awk_lanes.specs.Column.{Column}
 use Rattle.awk_lanes.specs.Numbers.{element, number, numbers, width, is_nonzero}
 use Rattle.awk_lanes.specs.Places.{size_of, at, option_place, option_place_at}
-use Rattle.awk_lanes.specs.declared.kind.Kind.TheVariants as kind
 use Rattle.awk_lanes.specs.declared.kind.Kind.TheVariants.{I8}
 use Rattle.awk_layout.specs.Item.{leaf_value, at_option, agrees, byte_shows, bit_shows}
 use Rattle.awk_layout.specs.Kinds.{kind_of, primitive_of, kind_of-primitive_of}
