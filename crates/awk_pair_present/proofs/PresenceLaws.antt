@@ -3,9 +3,9 @@ use Rattle.std.proofs.Common.{◌≡◌, ℕ, zero, suc, ◌+◌, ◌-◌, ◌<�
 use Rattle.std.proofs.Common.{refl, ap, arith, sym, subst, ◌∙◌, drop, take}
 use Rattle.std.specs.Prelude.{List, [], ◌∷◌, ◌++◌, map, filter, length, slice_get, Some}
 use Rattle.std.specs.Prelude.{ℤ, pos, negsuc, ◌<ℤ◌, ◌≤ℤ◌, ◌^◌, nat_lt, cond, if◌then◌else◌}
-use Rattle.std.specs.List.{flat_map, range_with_len}
+use Rattle.std.specs.List.{list_all, flat_map, range_with_len}
 use Rattle.std.proofs.lemmas.Int.{ints}
-use Rattle.std.proofs.lemmas.List.{take_all}
+use Rattle.std.proofs.lemmas.List.{take_all, drop_all}
 use Rattle.std.proofs.lemmas.Bool.{and_parts}
 use Rattle.std.proofs.lemmas.Simd.{map-map}
 use Rattle.awk_base.proofs.Ranges.{map-in, flat-in}
@@ -274,6 +274,29 @@ pub kept_get : (n : ℕ) (ks : Column) (ps : List Presence) (i : ℕ) (p : Prese
     → slice_get ps i ≡ Some p → AllKeptOf n (drop i ps) ks
     → AreKeptOf n p ks × AllKeptOf n (drop (i + 1) ps) ks
 kept_get n ks ps i p e h = subst (λ qs. AllKeptOf n qs ks) (drop-get ps i p e) h
+
+-- ---- whether all are there
+
+and-twice : (a b c : Bool) → ((a && b) && c) ≡ (a && (b && c))
+and-twice true b c = refl
+and-twice false b c = refl
+
+and-true : (a : Bool) → (a && true) ≡ a
+and-true true = refl
+and-true false = refl
+
+pub there_more : (f : Presence → Bool) (ps : List Presence) (i : ℕ) (p : Presence) (a d b : Bool)
+    → slice_get ps i ≡ Some p → d ≡ f p → (a && list_all f (drop i ps)) ≡ b
+    → ((a && d) && list_all f (drop (i + 1) ps)) ≡ b
+there_more f ps i p a d b g e h =
+    and-twice a d (list_all f (drop (i + 1) ps))
+    ∙ ap (λ c. a && (c && list_all f (drop (i + 1) ps))) e
+    ∙ sym (ap (λ qs. a && list_all f qs) (drop-get ps i p g)) ∙ h
+
+pub there_end : (f : Presence → Bool) (ps : List Presence) (i : ℕ) (a b : Bool) → length ps ≤ i
+    → (a && list_all f (drop i ps)) ≡ b → a ≡ b
+there_end f ps i a b l h =
+    sym (and-true a) ∙ sym (ap (λ qs. a && list_all f qs) (drop_all i ps l)) ∙ h
 
 -- ---- the rows that are kept
 

@@ -1,5 +1,5 @@
 //! Which items of operands are there, and their items at places where they are.
-ghost use Rattle.std.specs.Prelude.{◌≡◌, ℕ, ◌<◌, ◌≤◌, ◌^◌, ◌≤ℤ◌, pos, true, IfOk};
+ghost use Rattle.std.specs.Prelude.{◌≡◌, ℕ, ◌<◌, ◌≤◌, ◌^◌, ◌≤ℤ◌, ◌&&◌, pos, true, IfOk};
 ghost use Rattle.awk_lanes.specs.Places.{size_of, at, place_at};
 ghost use Rattle.awk_lanes.specs.declared.kind.Kind.TheVariants as Kind;
 ghost use Rattle.awk_layout.specs.Valid.{len};
@@ -10,10 +10,8 @@ ghost use Rattle.awk_pair_present.specs.Presence.{IsPresence, ArePresences, IsAs
 ghost use Rattle.awk_pair_present.specs.Presence.{AreKeptOf, AllKeptOf, IsTaken, AreTaken};
 
 use awk_gather::gather;
-use awk_index::{Index, index_of};
-use awk_lanes::{
-    Arena, Kind, Lane, NoMemory, Num, Numbers, Steps, made_lane, number, place_in, to_place,
-};
+use awk_index::{Index, index_of, wide_index};
+use awk_lanes::{Arena, Kind, Lane, NoMemory, Num, Numbers, Steps, made_lane, number, to_place};
 use awk_layout::{Array, Arrays};
 use awk_open::{Opened, opened};
 use awk_types::is_optional;
@@ -89,25 +87,33 @@ fn is_there(presence: &Presence, n: u64, i: u64) -> bool
     }
 }
 
-/// Whether all items of a row are there.
+/// Whether both are true, without a branch.
+#[inline(always)]
+fn both(a: bool, b: bool) -> bool
+    ensures { result ≡ (a && b) }
+{
+    a & b
+}
+
+/// Whether all items of a row are there. Each is asked: which of them are null has no pattern that
+/// a branch could foresee.
 pub(crate) fn are_there(presences: &[Presence], n: u64, i: u64) -> bool
     requires long { AreAsLong n presences.now }
     requires within { i < n }
     ensures { result ≡ are_there_at presences.now i }
 {
+    let mut all = true;
     for j in 0..presences.len() {
-        if !is_there(&presences[j], n, i) {
-            return false;
-        }
+        all = both(all, is_there(&presences[j], n, i));
     }
-    true
+    all
 }
 
 /// Where the items at places lie among those that are there.
 #[derive(Drop)]
 struct PlacesThere<'b, 'a> {
     index: &'b Index<'a>,
-    places: &'b Lane<'a>,
+    places: &'b Index<'a>,
 }
 
 impl<'b, 'a> Numbers for PlacesThere<'b, 'a> {
@@ -124,8 +130,8 @@ impl<'b, 'a> Numbers for PlacesThere<'b, 'a> {
 
     ghost IsReady = { λ f. AreThereAt f.index.now f.places.now };
 
-    fn number<L: Ledger>(&self, q: u64, steps: &mut Steps<L>) -> Num {
-        let i = place_in(self.places, q, steps);
+    fn number<L: Ledger>(&self, q: u64, _steps: &mut Steps<L>) -> Num {
+        let i = to_place(self.places.number(q));
         number(to_place(self.index.number(i)))
     }
 }
@@ -153,7 +159,11 @@ fn taken<'a, L: Ledger>(
         Presence::Indexed { index, content } => {
             let _ = content.len();
             let n = places.len();
-            let there = PlacesThere { index, places };
+            let seen = wide_index(places, arena, steps)?;
+            let there = PlacesThere {
+                index,
+                places: &seen,
+            };
             let lane = made_lane(Kind::I64, n, &there, arena, steps)?;
             let column = gather(alloc, content, &lane, arena, steps)?;
             Ok(column)
