@@ -264,8 +264,15 @@ impl<'a> Places for ByteMask<'a> {
         agreeing(self.valid_when, set_in(part), count)
     }
 
+    // Most masks hide little or have no pattern: the first item is asked, and then all at once.
     #[inline(always)]
     fn shows_some<L: Ledger>(&self, first: u64, count: u64, steps: &mut Steps<L>) -> bool {
+        if count == 0 {
+            return false;
+        }
+        if byte_shows(self, first) {
+            return true;
+        }
         self.present(first, count, steps) > 0
     }
 }
