@@ -29,6 +29,17 @@ pub fits_64 : (z : ℤ) → SFits w64 z → IsNumber I64 z
 fits_64 (pos n) h = let f : n < 2 ^ 63 = h.sfits in (omega (arith, ints), omega (arith, ints))
 fits_64 (negsuc n) h = let f : n < 2 ^ 63 = h.sfits in (omega (arith, ints), omega (arith, ints))
 
+-- a number of 32 bits fits 64
+pub widens_32 : (z : ℤ) → SFits w32 z → SFits w64 z
+widens_32 (pos n) h =
+    let f : n < 2 ^ 31 = h.sfits in
+    let g : n < 2 ^ 63 = omega arith in
+    record { sfits = g }
+widens_32 (negsuc n) h =
+    let f : n < 2 ^ 31 = h.sfits in
+    let g : n < 2 ^ 63 = omega arith in
+    record { sfits = g }
+
 pub zero_number : (k : Kind) → IsNumber k (pos 0)
 zero_number Truths = (omega (arith, ints), omega (arith, ints))
 zero_number I8 = (omega (arith, ints), omega (arith, ints))

@@ -6,6 +6,7 @@ ghost use Rattle.awk_lanes.specs.declared.kind.Kind.TheVariants as Kinds;
 
 use crate::kind::{Kind, Num};
 use crate::lane::Lane;
+use crate::maker::NumberMaker;
 use crate::memory::{Arena, NoMemory};
 use bumpalo::collections::into_bump_slice;
 use std::marker::Model;
@@ -68,5 +69,16 @@ impl<'a> IndexMaker<'a> {
     {
         let groups = into_bump_slice(self.groups);
         Lane::new(Kind::I64, groups.as_flattened())
+    }
+}
+
+impl<'a> NumberMaker for IndexMaker<'a> {
+    ghost making = { λ m. m };
+
+    ghost kind = { λ _. Kinds.I64 };
+
+    #[inline(always)]
+    fn put(&mut self, x: Num) {
+        self.push(x);
     }
 }

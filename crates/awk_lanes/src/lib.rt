@@ -2,8 +2,9 @@
 //!
 //! `Lane` is read by `at` and in ranges; `index_at`, `place_in`, `option_place_in`, `tag_in` and
 //! `is_set` read what a number stands for, and `wide_at` a number of i64. A lane is made by
-//! `LaneMaker`, number by number, by `IndexMaker` where all are places, by `made_lane` from a rule
-//! of `Numbers`, by `offsets_of`, `offsets_within` and `items_of` from lengths, or by
+//! `LaneMaker`, number by number, by `IndexMaker` where all are places and by `NarrowMaker` where 32
+//! bits are enough for them (a loop over any of these takes a `NumberMaker`), by `made_lane` from a
+//! rule of `Numbers`, by `offsets_of`, `offsets_within` and `items_of` from lengths, or by
 //! `lane_of_numbers` and `lane_of_nats` from a slice. `one_number` and `one_offsets` are the lanes
 //! of one list.
 //! `run_lane` and `ordinals` are lanes of places in order, which lie in no bytes where they are
@@ -22,6 +23,7 @@ mod lanes;
 mod made;
 mod maker;
 mod memory;
+mod narrow_maker;
 mod readers;
 mod run;
 mod single;
@@ -36,8 +38,9 @@ pub use kind::{Kind, Num};
 pub use lane::{Held, Lane};
 pub use lanes::{ByteLanes, Lanes};
 pub use made::{Numbers, made_lane};
-pub use maker::LaneMaker;
+pub use maker::{LaneMaker, NumberMaker};
 pub use memory::{Arena, NoMemory};
+pub use narrow_maker::NarrowMaker;
 pub use readers::{
     index_at, is_set, number, option_place_in, place_in, tag_in, to_option_place, to_place, wide_at,
 };

@@ -35,6 +35,27 @@ fn put<'a>(kind: Kind, x: Num, bytes: &mut Vec<u8, &'a Arena>)
     };
 }
 
+/// What makes a lane, number by number.
+pub trait NumberMaker {
+    ghost use Rattle.std.specs.Prelude.{◌≡◌, ◌<◌, length};
+    ghost use Rattle.awk_lanes.specs.Making.{Making, with_item};
+    ghost use Rattle.awk_lanes.specs.Numbers.{int_of, IsOf};
+    ghost use Rattle.awk_lanes.specs.declared.kind.Kind.{Kind};
+
+    /// What is made so far.
+    ghost making: { Self → Making };
+
+    /// The kind of the numbers.
+    ghost kind: { Self → Kind };
+
+    /// Puts a number of the kind behind those so far.
+    fn put(&mut self, x: Num)
+        requires room { length (making self.old).items < (making self.old).room }
+        requires kind { IsOf (kind self.old) x }
+        ensures number { making self.new ≡ with_item (making self.old) (int_of x) }
+        ensures kind { kind self.new ≡ kind self.old };
+}
+
 /// A lane that is being made. All its memory is taken when the making begins.
 #[derive(Drop)]
 pub struct LaneMaker<'a> {
@@ -105,5 +126,16 @@ impl<'a> LaneMaker<'a> {
         ensures items { result.items ≡ self.entry.items }
     {
         Lane::whole(self.kind, self.made, into_bump_slice(self.bytes))
+    }
+}
+
+impl<'a> NumberMaker for LaneMaker<'a> {
+    ghost making = { λ m. m };
+
+    ghost kind = { λ m. m.kind };
+
+    #[inline(always)]
+    fn put(&mut self, x: Num) {
+        self.push(x);
     }
 }
