@@ -1,3 +1,4 @@
+pub mod CountLaws
 pub mod FirstPlaces
 pub mod PlaceLanes
 pub mod TaggedCounts

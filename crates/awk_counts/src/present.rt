@@ -1,14 +1,18 @@
 //! Indexes of options that count up, and the places of the items that are present.
-ghost use Rattle.std.specs.Prelude.{◌≡◌, ◌<◌, ◌^◌, length, IfOk, IfSome};
+ghost use Rattle.std.specs.Prelude.{◌≡◌, ◌<◌, ◌^◌, [], length, IfOk, IfSome};
 ghost use Rattle.awk_lanes.specs.Numbers.{int_of, IsOf};
 ghost use Rattle.awk_lanes.specs.Places.{size_of, option_place_at, IsOptionKind};
 ghost use Rattle.awk_lanes.specs.declared.kind.Kind.TheVariants as Kind;
 ghost use Rattle.awk_counts.specs.Counted.{first_of, places_lane, present_place, present_at};
 ghost use Rattle.awk_counts.specs.Counted.{count_or_null, counted_lane};
+ghost use Rattle.awk_counts.specs.Narrow.{narrow_lane, HoldsCounts};
 
 use awk_index::Index;
-use awk_lanes::{Arena, IndexMaker, Lane, NoMemory, Num, number};
+use awk_lanes::{Arena, IndexMaker, Lane, NarrowMaker, NoMemory, Num, NumberMaker, number};
 use awk_narrow::OptionIndex;
+
+/// How many items are too many for an index of 32 bits.
+const NARROW_LIMIT: u64 = 2147483648;
 
 /// 1 where there is a place, else 0.
 #[inline(always)]
@@ -48,22 +52,49 @@ fn next_number(place: Option<u64>, next: u64) -> Num
     }
 }
 
-/// The index of an option over the present items alone: it counts up, and is -1 for each null.
+/// Makes the numbers of the index of an option over the present items alone.
+#[inline(always)]
 #[tactic(auto, using(awk_lanes::proofs::MadeLanes::making))]
+fn count_into<P: OptionIndex, M: NumberMaker>(index: &P, maker: &mut M)
+    requires small { size_of (P.lane index.now) < 2 ^ 63 }
+    requires held { HoldsCounts (size_of (P.lane index.now)) (M.kind maker.old) }
+    requires room { (M.making maker.old).room ≡ size_of (P.lane index.now) }
+    requires none { (M.making maker.old).items ≡ [] }
+    ensures { (M.making maker.new).items ≡ (counted_lane (P.lane index.now)).items }
+{
+    let n = index.size();
+    let mut next = 0;
+    for i in 0..n {
+        let place = index.place(i);
+        maker.put(next_number(place, next));
+        next += one_if(place);
+    }
+}
+
+/// The index of an option over the present items alone: it counts up, and is -1 for each null.
 pub fn counted<'a, P: OptionIndex>(index: &P, arena: &'a Arena) -> Result<Lane<'a>, NoMemory>
     requires kind { IsOptionKind (P.lane index.now).kind }
     requires small { size_of (P.lane index.now) < 2 ^ 63 }
     ensures lane { IfOk result (λ r. r ≡ counted_lane (P.lane index.now)) }
 {
-    let n = index.size();
-    let mut maker = IndexMaker::new(n, arena)?;
-    let mut next = 0;
-    for i in 0..n {
-        let place = index.place(i);
-        maker.push(next_number(place, next));
-        next += one_if(place);
-    }
+    let mut maker = IndexMaker::new(index.size(), arena)?;
+    count_into(index, &mut maker);
     Ok(maker.finish())
+}
+
+/// The same in 32 bits, where no count is more than these hold.
+pub fn counted_narrow<'a, P: OptionIndex>(index: &P, arena: &'a Arena) -> Result<Lane<'a>, NoMemory>
+    requires kind { IsOptionKind (P.lane index.now).kind }
+    requires small { size_of (P.lane index.now) < 2 ^ 63 }
+    ensures lane { IfOk result (λ r. r ≡ narrow_lane (P.lane index.now)) }
+{
+    let n = index.size();
+    if n < NARROW_LIMIT {
+        let mut maker = NarrowMaker::new(n, arena)?;
+        count_into(index, &mut maker);
+        return Ok(maker.finish());
+    }
+    counted(index, arena)
 }
 
 /// The place that the index of an option names at place i, which an i64 holds.
