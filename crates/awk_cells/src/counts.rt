@@ -74,24 +74,60 @@ pub fn count_set(bytes: &[u8]) -> u64
     blocks_count::<64>(blocks) + count_short(rest)
 }
 
-/// 1 for true, else 0.
-#[inline(always)]
-fn one_if_true(told: bool) -> u32
-    ensures one { result ≡ cond told 1 0 }
-    ensures small { result ≤ 1 }
-{
-    if told { 1 } else { 0 }
+/// A count in so many bits that vectors of the numbers that are counted hold it as they lie.
+pub(crate) trait Count {
+    ghost use Rattle.std.specs.Prelude.{◌≡◌, ◌+◌, ◌≤◌, ℕ, cond};
+
+    /// How many it is.
+    ghost count: { Self → ℕ };
+
+    /// None.
+    fn none() -> Self
+        ensures { count result ≡ 0 };
+
+    /// One more where it is told so.
+    fn with(old: Self, told: bool) -> Self
+        requires few { count old ≤ 1073741824 }
+        ensures { count result ≡ count old + cond told 1 0 };
 }
 
-/// How many numbers are 0, counted in 32 bits, one after another.
+impl Count for u32 {
+    ghost count = { λ n. n };
+
+    #[inline(always)]
+    fn none() -> u32 {
+        0
+    }
+
+    #[inline(always)]
+    fn with(old: u32, told: bool) -> u32 {
+        old + if told { 1 } else { 0 }
+    }
+}
+
+impl Count for u64 {
+    ghost count = { λ n. n };
+
+    #[inline(always)]
+    fn none() -> u64 {
+        0
+    }
+
+    #[inline(always)]
+    fn with(old: u64, told: bool) -> u64 {
+        old + if told { 1 } else { 0 }
+    }
+}
+
+/// How many numbers are 0, one after another.
 #[inline(always)]
-fn zeros_in<const W: usize, C: Cell<W>>(groups: &[[u8; W]]) -> u32
+fn zeros_in<const W: usize, C: Cell<W>, N: Count>(groups: &[[u8; W]]) -> N
     requires few { length groups.now ≤ 1073741824 }
-    ensures { result + count_by is_nonzero (map C.number groups.now) ≡ length groups.now }
+    ensures { N.count result + count_by is_nonzero (map C.number groups.now) ≡ length groups.now }
 {
-    let mut zeros: u32 = 0;
+    let mut zeros = N::none();
     for i in 0..groups.len() {
-        zeros += one_if_true(is_zero_at::<W, C>(groups, i));
+        zeros = N::with(zeros, is_zero_at::<W, C>(groups, i));
     }
     zeros
 }
@@ -105,7 +141,7 @@ fn zeros_in_blocks<const W: usize, C: Cell<W>>(blocks: &[[[u8; W]; 8]]) -> u32
 {
     let mut zeros: u32 = 0;
     for i in 0..blocks.len() {
-        zeros += zeros_in::<W, C>(&blocks[i]);
+        zeros += zeros_in::<W, C, u32>(&blocks[i]);
     }
     zeros
 }
@@ -117,17 +153,22 @@ fn zeros_in_all<const W: usize, C: Cell<W>>(groups: &[[u8; W]]) -> u32
     ensures { result + count_by is_nonzero (map C.number groups.now) ≡ length groups.now }
 {
     if !has_blocks::<W>(groups.len()) {
-        return zeros_in::<W, C>(groups);
+        return zeros_in::<W, C, u32>(groups);
     }
     let (blocks, rest) = groups.as_chunks::<8>();
-    zeros_in_blocks::<W, C>(blocks) + zeros_in::<W, C>(rest)
+    zeros_in_blocks::<W, C>(blocks) + zeros_in::<W, C, u32>(rest)
 }
 
-/// How many numbers are not 0: all but those that are 0.
+/// How many numbers are not 0: all but those that are 0, which are counted in 64 bits where they have
+/// as many.
 #[inline(always)]
 pub fn nonzero_in<const W: usize, C: Cell<W>>(groups: &[[u8; W]]) -> u64
     requires few { length groups.now ≤ 1073741824 }
     ensures { result ≡ count_by is_nonzero (map C.number groups.now) }
 {
-    groups.len() as u64 - u64::from(zeros_in_all::<W, C>(groups))
+    let count = groups.len() as u64;
+    if W == 8 {
+        return count - zeros_in::<W, C, u64>(groups);
+    }
+    count - u64::from(zeros_in_all::<W, C>(groups))
 }

@@ -22,7 +22,7 @@ loop-i-preserved g c =
     let bit : Bool → ℕ = λ b. cond b 1 0 in
     let told = ap bit c.is_zero_at.ensures in
     let either = one-of (is_nonzero (get_or (map f gs) i (pos 0))) in
-    let counted = c.one_if_true-zeros.ensures.one in
+    let counted = c.with-zeros.ensures in
     record {
       count = omega (arith, more, c.loop-i.invariant.count, counted, told, either);
       within = omega (arith, c.loop-i-test.true);

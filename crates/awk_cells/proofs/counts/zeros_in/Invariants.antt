@@ -5,6 +5,7 @@ use Rattle.awk_cells.proofs.counts.zeros_in.Given as goal
 
 abbrev pub invariant-loop-i : goal.invariant-loop-i
 invariant-loop-i g l = record {
-  count : l.zeros + count_by is_nonzero (take l.i (map g.C.Cell.number l.groups)) ≡ l.i;
+  count : g.N.Count.count l.zeros
+      + count_by is_nonzero (take l.i (map g.C.Cell.number l.groups)) ≡ l.i;
   within : l.i ≤ length l.groups;
 }
