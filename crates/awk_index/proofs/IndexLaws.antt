@@ -1,4 +1,4 @@
--- Numbers in groups of eight bytes.
+-- Numbers in groups of bytes.
 use Rattle.std.specs.Prelude.{◌≡◌, ◌≢◌, refl, ℕ, ◌*◌, ◌/◌, ◌<◌, List, []}
 use Rattle.std.specs.Prelude.{length, map, get_or, ℤ, pos}
 use Rattle.std.specs.Simd.{first_chunks}
@@ -16,14 +16,19 @@ use Rattle.awk_lanes.specs.Words.{column}
 use Rattle.awk_lanes.proofs.NumberParts.{map-number_all}
 use Rattle.awk_lanes.proofs.PlaceLaws.{element-index}
 
--- the numbers of a lane of 64 bits by its groups
+-- the numbers of a lane of a kind by its groups
+pub kind_numbers-groups : (k : Kind) (c : Column) (b : List ℕ) → c.kind ≡ k
+    → length b ≡ size_of c * width c.kind → numbers c.kind (size_of c) b ≡ c.items
+    → map (number k) (first_chunks (width k) (length b / width k) b) ≡ c.items
+kind_numbers-groups k c b e size same =
+    subst (λ kind. length b ≡ size_of c * width kind → numbers kind (size_of c) b ≡ c.items
+    → map (number k) (first_chunks (width k) (length b / width k) b) ≡ c.items) (sym e)
+    (λ s t. map-number_all k (size_of c) b c.items s t) size same
+
 pub numbers-groups : (c : Column) (b : List ℕ) → c.kind ≡ I64
     → length b ≡ size_of c * width c.kind → numbers c.kind (size_of c) b ≡ c.items
     → map (number I64) (first_chunks 8 (length b / 8) b) ≡ c.items
-numbers-groups c b k size same =
-    subst (λ kind. length b ≡ size_of c * width kind → numbers kind (size_of c) b ≡ c.items
-    → map (number I64) (first_chunks 8 (length b / 8) b) ≡ c.items) (sym k)
-    (λ s e. map-number_all I64 (size_of c) b c.items s e) size same
+numbers-groups = kind_numbers-groups I64
 
 -- ---- one number
 

@@ -1,5 +1,5 @@
 -- The numbers of lanes as u64.
-use Rattle.std.proofs.Common.{◌≡◌, ℕ, suc, ◌*◌, ◌/◌, ◌≤◌, ◌^◌, List, [], ◌∷◌}
+use Rattle.std.proofs.Common.{◌≡◌, ℕ, suc, ◌*◌, ◌/◌, ◌^◌, List, [], ◌∷◌}
 use Rattle.std.proofs.Common.{length, get_or, map, refl, ◌∙◌, arith}
 use Rattle.std.proofs.Common.{◌-◌, Bool, true, false, ltb, w8, w16, w32, w64}
 use mir.Val.{sel, bits, hbits}

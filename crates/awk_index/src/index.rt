@@ -1,11 +1,13 @@
 //! The numbers of a lane in groups of eight bytes.
-ghost use Rattle.std.specs.Prelude.{◌≡◌, ◌<◌, [], get_or, length, IfOk, IfSome};
+ghost use Rattle.std.specs.Prelude.{◌≡◌, ◌<◌, [], get_or, length, map, IfOk, IfSome};
 ghost use Rattle.awk_lanes.specs.Numbers.{number};
 ghost use Rattle.awk_lanes.specs.Places.{size_of, at, option_place_at, IsIndexKind};
 ghost use Rattle.awk_lanes.specs.declared.kind.Kind.TheVariants as Kinds;
 
+use crate::cells::Cell;
 use crate::numbers::numbers_of;
 use awk_lanes::{Arena, Held, Kind, Lane, NoMemory, Steps, lane_of_numbers, to_option_place};
+use bumpalo::collections::into_bump_slice;
 use std::alloc::Global;
 use std::marker::Model;
 use std::sync::ledger::Ledger;
@@ -114,6 +116,37 @@ pub fn laid_index<'a, L: Ledger>(lane: &Lane<'a>, steps: &mut Steps<L>) -> Optio
     }
 }
 
+/// The number of each group in eight bytes. All their memory is taken before the first.
+fn wide_groups<'a, const W: usize, C: Cell<W>>(
+    groups: &[[u8; W]],
+    arena: &'a Arena,
+) -> Result<&'a [[u8; 8]], NoMemory>
+    ensures { IfOk result (λ r. map (number Kinds.I64) r.now ≡ map C.number groups.now) }
+{
+    let mut wide = Vec::with_capacity(arena, groups.len())?;
+    for i in 0..groups.len() {
+        wide.push_reserved(C::number(&groups[i]).to_le_bytes());
+    }
+    Ok(into_bump_slice(wide))
+}
+
+/// The numbers of a lane of i32, widened.
+fn wider<'a, L: Ledger>(
+    lane: &Lane<'a>,
+    arena: &'a Arena,
+    steps: &mut Steps<L>,
+) -> Result<Index<'a>, NoMemory>
+    requires { lane.now.kind ≡ Kinds.I32 }
+    ensures { IfOk result (λ r. r ≡ lane.now) }
+{
+    let (fours, _) = lane.narrow_bytes(steps).as_chunks::<4>();
+    let groups = wide_groups::<4, i32>(fours, arena)?;
+    Ok(Index {
+        kind: Kind::I32,
+        groups,
+    })
+}
+
 /// The numbers of a lane: where they lie, if they are of i64, and else widened.
 pub fn index_of<'a, L: Ledger>(
     alloc: Global,
@@ -126,10 +159,13 @@ pub fn index_of<'a, L: Ledger>(
 {
     let kind = lane.kind();
     let _ = lane.len();
-    if kind == Kind::I64 {
-        return whole(kind, lane, arena, steps);
+    match kind {
+        Kind::I64 => whole(kind, lane, arena, steps),
+        Kind::I32 => wider(lane, arena, steps),
+        _ => {
+            let numbers = numbers_of(alloc, lane, steps)?;
+            let wide = lane_of_numbers(Kind::I64, &numbers, arena)?;
+            whole(kind, &wide, arena, steps)
+        }
     }
-    let numbers = numbers_of(alloc, lane, steps)?;
-    let wide = lane_of_numbers(Kind::I64, &numbers, arena)?;
-    whole(kind, &wide, arena, steps)
 }

@@ -1,22 +1,19 @@
 -- Numbers in groups of four bytes.
 use Rattle.std.specs.Prelude.{◌≡◌, ℕ, ◌*◌, ◌/◌, ◌<◌, List, [], length, map, get_or, pos}
 use Rattle.std.specs.Simd.{first_chunks}
-use Rattle.std.proofs.Common.{arith, ap, sym, ◌∙◌, subst}
+use Rattle.std.proofs.Common.{arith, ap, sym, ◌∙◌}
 use Rattle.std.proofs.lemmas.List.{length-map, get_or-map}
 use Rattle.awk_lanes.specs.declared.kind.Kind.TheVariants.{I32}
 use Rattle.awk_lanes.specs.Column.{Column}
 use Rattle.awk_lanes.specs.Numbers.{width, number, numbers}
 use Rattle.awk_lanes.specs.Places.{size_of, at}
-use Rattle.awk_lanes.proofs.NumberParts.{map-number_all}
+use Rattle.awk_index.proofs.IndexLaws.{kind_numbers-groups}
 
 -- the numbers of a lane of 32 bits by its groups
 pub numbers-groups : (c : Column) (b : List ℕ) → c.kind ≡ I32
     → length b ≡ size_of c * width c.kind → numbers c.kind (size_of c) b ≡ c.items
     → map (number I32) (first_chunks 4 (length b / 4) b) ≡ c.items
-numbers-groups c b k size same =
-    subst (λ kind. length b ≡ size_of c * width kind → numbers kind (size_of c) b ≡ c.items
-    → map (number I32) (first_chunks 4 (length b / 4) b) ≡ c.items) (sym k)
-    (λ s e. map-number_all I32 (size_of c) b c.items s e) size same
+numbers-groups = kind_numbers-groups I32
 
 -- the lane that groups of four bytes show
 abbrev Seen : List (List ℕ) → Column

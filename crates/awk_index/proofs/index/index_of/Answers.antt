@@ -11,5 +11,5 @@ numbers_of-requires g c = not-unsigned c.args.lane.now.kind c.requires
 pub lane_of_numbers-requires : goal.lane_of_numbers-requires
 lane_of_numbers-requires g c =
     subst (λ zs. AreNumbers (column I64 zs)) (sym
-    (c.deref.ensures.value ∙ c.in_ok-numbers.ensures.numbers))
+    (c.deref.ensures.value ∙ c.in_ok-numbers-in_default.ensures.numbers))
     (wide-numbers c.args.lane.now c.requires c.len.ensures.fits)
