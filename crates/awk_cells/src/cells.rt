@@ -1,10 +1,11 @@
 //! How numbers that fit an i64 lie in the bytes of a lane.
-ghost use Rattle.std.specs.Prelude.{◌≡◌, ◌≤◌, unsigned_abs};
+ghost use Rattle.std.specs.Prelude.{◌≡◌, ◌≤◌, true, unsigned_abs, FitsSigned};
+ghost use Rattle.std.specs.Int.{w32};
 ghost use Rattle.awk_lanes.specs.Numbers.{element, number as number_of};
 
 /// A number of W bytes, the least significant first, that fits an i64; a truth value is 0 or 1.
 pub trait Cell<const W: usize> {
-    ghost use Rattle.std.specs.Prelude.{ℕ, ℤ, List};
+    ghost use Rattle.std.specs.Prelude.{ℕ, ℤ, List, Bool};
     ghost use Rattle.awk_lanes.specs.declared.kind.Kind.{Kind};
 
     /// The kind of lanes that hold such numbers.
@@ -16,14 +17,19 @@ pub trait Cell<const W: usize> {
     /// How far from 0 a number may lie.
     ghost reach: { ℕ };
 
+    /// Whether each number fits an i32.
+    ghost is_short: { Bool };
+
     /// The number of these bytes.
     fn number(bytes: &[u8; W]) -> i64
         ensures number { result ≡ number bytes.now }
         ensures element { result ≡ element kind (number_of kind bytes.now) }
-        ensures near { unsigned_abs result ≤ reach };
+        ensures near { unsigned_abs result ≤ reach }
+        ensures short { is_short ≡ true → FitsSigned w32 result };
 }
 
 impl Cell<1> for bool {
+    ghost use Rattle.std.specs.Prelude.{true};
     ghost use Rattle.awk_lanes.specs.Numbers.{element, number as number_of};
     ghost use Rattle.awk_lanes.specs.declared.kind.Kind.TheVariants as Kind;
 
@@ -33,6 +39,8 @@ impl Cell<1> for bool {
 
     ghost reach = { 1 };
 
+    ghost is_short = { true };
+
     #[inline(always)]
     fn number(bytes: &[u8; 1]) -> i64 {
         if bytes[0] == 0 { 0 } else { 1 }
@@ -40,6 +48,7 @@ impl Cell<1> for bool {
 }
 
 impl Cell<1> for i8 {
+    ghost use Rattle.std.specs.Prelude.{true};
     ghost use Rattle.awk_lanes.specs.Numbers.{number as number_of};
     ghost use Rattle.awk_lanes.specs.declared.kind.Kind.TheVariants as Kind;
 
@@ -49,6 +58,8 @@ impl Cell<1> for i8 {
 
     ghost reach = { 128 };
 
+    ghost is_short = { true };
+
     #[inline(always)]
     fn number(bytes: &[u8; 1]) -> i64 {
         i64::from(i8::from_le_bytes(*bytes))
@@ -56,6 +67,7 @@ impl Cell<1> for i8 {
 }
 
 impl Cell<2> for i16 {
+    ghost use Rattle.std.specs.Prelude.{true};
     ghost use Rattle.awk_lanes.specs.Numbers.{number as number_of};
     ghost use Rattle.awk_lanes.specs.declared.kind.Kind.TheVariants as Kind;
 
@@ -65,6 +77,8 @@ impl Cell<2> for i16 {
 
     ghost reach = { 32768 };
 
+    ghost is_short = { true };
+
     #[inline(always)]
     fn number(bytes: &[u8; 2]) -> i64 {
         i64::from(i16::from_le_bytes(*bytes))
@@ -72,6 +86,7 @@ impl Cell<2> for i16 {
 }
 
 impl Cell<4> for i32 {
+    ghost use Rattle.std.specs.Prelude.{true};
     ghost use Rattle.awk_lanes.specs.Numbers.{number as number_of};
     ghost use Rattle.awk_lanes.specs.declared.kind.Kind.TheVariants as Kind;
 
@@ -81,6 +96,8 @@ impl Cell<4> for i32 {
 
     ghost reach = { 2147483648 };
 
+    ghost is_short = { true };
+
     #[inline(always)]
     fn number(bytes: &[u8; 4]) -> i64 {
         i64::from(i32::from_le_bytes(*bytes))
@@ -88,6 +105,7 @@ impl Cell<4> for i32 {
 }
 
 impl Cell<8> for i64 {
+    ghost use Rattle.std.specs.Prelude.{false};
     ghost use Rattle.awk_lanes.specs.Numbers.{number as number_of};
     ghost use Rattle.awk_lanes.specs.declared.kind.Kind.TheVariants as Kind;
 
@@ -97,6 +115,8 @@ impl Cell<8> for i64 {
 
     ghost reach = { 9223372036854775808 };
 
+    ghost is_short = { false };
+
     #[inline(always)]
     fn number(bytes: &[u8; 8]) -> i64 {
         i64::from_le_bytes(*bytes)
@@ -104,6 +124,7 @@ impl Cell<8> for i64 {
 }
 
 impl Cell<1> for u8 {
+    ghost use Rattle.std.specs.Prelude.{true};
     ghost use Rattle.awk_lanes.specs.Numbers.{number as number_of};
     ghost use Rattle.awk_lanes.specs.declared.kind.Kind.TheVariants as Kind;
 
@@ -113,6 +134,8 @@ impl Cell<1> for u8 {
 
     ghost reach = { 255 };
 
+    ghost is_short = { true };
+
     #[inline(always)]
     fn number(bytes: &[u8; 1]) -> i64 {
         i64::from(bytes[0])
@@ -120,6 +143,7 @@ impl Cell<1> for u8 {
 }
 
 impl Cell<2> for u16 {
+    ghost use Rattle.std.specs.Prelude.{true};
     ghost use Rattle.awk_lanes.specs.Numbers.{number as number_of};
     ghost use Rattle.awk_lanes.specs.declared.kind.Kind.TheVariants as Kind;
 
@@ -129,6 +153,8 @@ impl Cell<2> for u16 {
 
     ghost reach = { 65535 };
 
+    ghost is_short = { true };
+
     #[inline(always)]
     fn number(bytes: &[u8; 2]) -> i64 {
         i64::from(u16::from_le_bytes(*bytes))
@@ -136,6 +162,7 @@ impl Cell<2> for u16 {
 }
 
 impl Cell<4> for u32 {
+    ghost use Rattle.std.specs.Prelude.{false};
     ghost use Rattle.awk_lanes.specs.Numbers.{number as number_of};
     ghost use Rattle.awk_lanes.specs.declared.kind.Kind.TheVariants as Kind;
 
@@ -144,6 +171,8 @@ impl Cell<4> for u32 {
     ghost number = { number_of Kind.U32 };
 
     ghost reach = { 4294967295 };
+
+    ghost is_short = { false };
 
     #[inline(always)]
     fn number(bytes: &[u8; 4]) -> i64 {

@@ -1,5 +1,5 @@
 //! The least and the greatest as types: a loop over numbers asks no more which is looked for.
-ghost use Rattle.std.specs.Prelude.{◌≡◌};
+ghost use Rattle.std.specs.Prelude.{◌≡◌, pos};
 
 /// Which of two numbers is looked for.
 pub trait Side {
@@ -11,6 +11,10 @@ pub trait Side {
     /// Whether a number comes before another.
     fn beats(x: i64, y: i64) -> bool
         ensures { result ≡ is_before how x y };
+
+    /// The same of numbers that are not negative.
+    fn beats_natural(x: u64, y: u64) -> bool
+        ensures { result ≡ is_before how (pos x) (pos y) };
 }
 
 /// The least.
@@ -25,6 +29,11 @@ impl Side for Lesser {
     fn beats(x: i64, y: i64) -> bool {
         x < y
     }
+
+    #[inline(always)]
+    fn beats_natural(x: u64, y: u64) -> bool {
+        x < y
+    }
 }
 
 /// The greatest.
@@ -37,6 +46,11 @@ impl Side for Greater {
 
     #[inline(always)]
     fn beats(x: i64, y: i64) -> bool {
+        y < x
+    }
+
+    #[inline(always)]
+    fn beats_natural(x: u64, y: u64) -> bool {
         y < x
     }
 }
