@@ -1,3 +1,4 @@
 pub mod FitLaws
 pub mod SpanLaws
 pub mod ElementLaws
+pub mod WindowLaws

@@ -3,3 +3,4 @@ pub mod Spans
 pub mod Fits
 pub mod Lanes
 pub mod Elements
+pub mod Windows

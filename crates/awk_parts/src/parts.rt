@@ -1,11 +1,12 @@
 //! Numbers in parts, each from a start below a stop.
 ghost use Rattle.std.specs.Prelude.{◌≡◌, ◌+◌, ◌-◌, ◌<◌, ◌≤◌, ◌^◌, map, length, IfOk};
 ghost use Rattle.std.specs.List.{slice_range};
-ghost use Rattle.awk_lanes.specs.Numbers.{number};
+ghost use Rattle.awk_lanes.specs.Numbers.{number, nat_of};
 ghost use Rattle.awk_lanes.specs.Places.{size_of, at, IsIndexKind};
 ghost use Rattle.awk_lanes.specs.declared.kind.Kind.TheVariants as Kind;
 ghost use Rattle.awk_numbers.specs.Folds.{whole_numbers};
-ghost use Rattle.awk_parts.specs.Spans.{end_at, span_part, span_size, span_count};
+ghost use Rattle.awk_parts.specs.Spans.{end_at, start_of, stop_of, span_part};
+ghost use Rattle.awk_parts.specs.Spans.{span_size, span_count};
 ghost use Rattle.awk_parts.specs.Spans.{AreEnds, AreOrdered, AreSpanned};
 
 use awk_lanes::{Arena, Kind, Lane, NoMemory, Num, Numbers, Steps, index_at, made_lane, to_place};
@@ -64,6 +65,29 @@ pub(crate) fn span_of(parts: &Parts, i: u64) -> Span
             start: to_place(start),
             stop: to_place(stop),
         }
+    }
+}
+
+/// A number as a place, and 0 where it is negative.
+#[inline(always)]
+fn place_or_zero(z: i64) -> u64
+    ensures { result ≡ nat_of z }
+{
+    if z < 0 { 0 } else { to_place(z) }
+}
+
+/// Where part i begins and ends, as its ends are told.
+#[inline(always)]
+pub(crate) fn bounds_of(parts: &Parts, i: u64) -> Span
+    requires parts { AreSpanned (whole_numbers parts.now.numbers.now) parts.now.spans.now }
+    requires within { i < span_count parts.now.spans.now }
+    ensures order { result.start ≤ result.stop }
+    ensures start { result.start ≡ start_of parts.now.spans.now i }
+    ensures stop { result.stop ≡ stop_of parts.now.spans.now i }
+{
+    Span {
+        start: place_or_zero(end_in(parts.spans.starts, i)),
+        stop: place_or_zero(end_in(parts.spans.stops, i)),
     }
 }
 

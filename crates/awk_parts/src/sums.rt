@@ -13,6 +13,7 @@ ghost use Rattle.awk_parts.specs.Spans.{span_count, AreSpanned};
 use crate::counts::truths_counted;
 use crate::parts::{Parts, Span, span_of};
 use crate::totals::{Totals, fitting_lane};
+use crate::window_sums::window_lane;
 use awk_cells::{Cell, int_sum_in, sum_in};
 use awk_lanes::{Arena, Lane, NoMemory, Steps};
 use awk_types::Prim;
@@ -79,13 +80,12 @@ pub(crate) fn narrow_sums<'a, const W: usize, C: Cell<W>, L: Ledger>(
         (whole_numbers parts.now.numbers.now) parts.now.spans.now)
         (span_count parts.now.spans.now)) }
 {
-    let count = parts.spans.starts.len() as u64;
-    let sums: NarrowSums<'_, '_, '_, W, C> = NarrowSums {
+    let slices: NarrowSums<'_, '_, '_, W, C> = NarrowSums {
         groups,
         parts,
         cell: PhantomData,
     };
-    fitting_lane(prim, count, &sums, arena, steps)
+    window_lane::<W, C, NarrowSums<'_, '_, '_, W, C>, L>(prim, groups, parts, &slices, arena, steps)
 }
 
 // ---- numbers of i64
@@ -146,8 +146,8 @@ pub(crate) fn int_sums<'a, L: Ledger>(
         (whole_numbers parts.now.numbers.now) parts.now.spans.now)
         (span_count parts.now.spans.now)) }
 {
-    let count = parts.spans.starts.len() as u64;
-    fitting_lane(prim, count, &IntSums { groups, parts }, arena, steps)
+    let slices = IntSums { groups, parts };
+    window_lane::<8, i64, IntSums<'_, '_, '_>, L>(prim, groups, parts, &slices, arena, steps)
 }
 
 // ---- truth values

@@ -1,11 +1,12 @@
 //! Lanes of exact numbers that fit a primitive.
-ghost use Rattle.std.specs.Prelude.{◌<◌, ◌≤◌, IfOk};
+ghost use Rattle.std.specs.Prelude.{◌≡◌, ◌<◌, ◌≤◌, IfOk};
+ghost use Rattle.awk_layout.specs.Kinds.{kind_of};
 ghost use Rattle.awk_types.specs.declared.primitive.Primitive.TheVariants as Prims;
 ghost use Rattle.awk_numbers.specs.Folds.{IsNear};
-ghost use Rattle.awk_parts.specs.Fits.{IsFitting, AreFitting};
+ghost use Rattle.awk_parts.specs.Fits.{IsFitting, AreFitting, AreFirst, ArePushed};
 
 use crate::fits::fitting;
-use awk_lanes::{Arena, IndexMaker, Lane, LaneMaker, NoMemory, Num, Steps};
+use awk_lanes::{Arena, IndexMaker, Lane, LaneMaker, NoMemory, Num, NumberMaker, Steps};
 use awk_layout::kind_of;
 use awk_types::Prim;
 use std::sync::ledger::Ledger;
@@ -49,9 +50,39 @@ fn total_at<S: Totals, L: Ledger>(
     }
 }
 
+/// Puts the numbers from one place below another behind those before them, as numbers of a
+/// primitive, and tells whether all are; it stops at the first that is not.
+#[inline(always)]
+pub(crate) fn push_totals<S: Totals, M: NumberMaker, L: Ledger>(
+    prim: Prim,
+    from: u64,
+    to: u64,
+    source: &S,
+    maker: &mut M,
+    steps: &mut Steps<L>,
+) -> bool
+    requires ready { S.IsReady source.now }
+    requires order { from ≤ to }
+    requires within { to ≤ S.size source.now }
+    requires room { to ≤ (M.making maker.old).room }
+    requires kind { M.kind maker.old ≡ kind_of prim }
+    requires made { AreFirst prim (S.at source.now) (M.making maker.old).room from
+        (M.making maker.old) }
+    ensures kind { M.kind maker.new ≡ kind_of prim }
+    ensures made { ArePushed prim (S.at source.now) (M.making maker.old).room to
+        (M.making maker.new) result }
+{
+    for i in from..to {
+        match total_at(prim, source, i, steps) {
+            Some(number) => maker.put(number),
+            None => return false,
+        }
+    }
+    true
+}
+
 /// The first n numbers as those of a primitive, or none where one does not fit.
 #[inline(always)]
-#[tactic(auto, using(awk_lanes::proofs::MadeLanes::making))]
 fn fitting_numbers<'a, S: Totals, L: Ledger>(
     prim: Prim,
     n: u64,
@@ -64,17 +95,14 @@ fn fitting_numbers<'a, S: Totals, L: Ledger>(
     ensures { IfOk result (AreFitting prim (S.at source.now) n) }
 {
     let mut maker = LaneMaker::new(kind_of(prim), n, arena)?;
-    for i in 0..n {
-        match total_at(prim, source, i, steps) {
-            Some(number) => maker.push(number),
-            None => return Ok(None),
-        }
+    if push_totals(prim, 0, n, source, &mut maker, steps) {
+        Ok(Some(maker.finish()))
+    } else {
+        Ok(None)
     }
-    Ok(Some(maker.finish()))
 }
 
 /// The same of i64, whose lane is made without asking for its kind.
-#[tactic(auto, using(awk_lanes::proofs::MadeLanes::making))]
 fn fitting_ints<'a, S: Totals, L: Ledger>(
     n: u64,
     source: &S,
@@ -86,13 +114,11 @@ fn fitting_ints<'a, S: Totals, L: Ledger>(
     ensures { IfOk result (AreFitting Prims.I64 (S.at source.now) n) }
 {
     let mut maker = IndexMaker::new(n, arena)?;
-    for i in 0..n {
-        match total_at(Prim::I64, source, i, steps) {
-            Some(number) => maker.push(number),
-            None => return Ok(None),
-        }
+    if push_totals(Prim::I64, 0, n, source, &mut maker, steps) {
+        Ok(Some(maker.finish()))
+    } else {
+        Ok(None)
     }
-    Ok(Some(maker.finish()))
 }
 
 /// The first n numbers as those of a primitive, or none where one does not fit. There is a loop for

@@ -1,15 +1,11 @@
-use Rattle.awk_lanes.proofs.MadeLanes.{so_far_pushed}
-use Rattle.awk_lanes.specs.Numbers.{int_of}
-use Rattle.awk_layout.specs.Kinds.{kind_of}
-use Rattle.awk_parts.proofs.FitLaws.{AllFit-more}
+use Rattle.std.proofs.Common.{ap, sym, ◌∙◌}
+use Rattle.awk_lanes.specs.Making.{Making}
+use Rattle.awk_lanes.proofs.MadeLanes.{made_size}
 use Rattle.awk_parts.proofs.totals.fitting_numbers.Goals as goal
 
-pub loop-i-preserved : goal.loop-i-preserved
-loop-i-preserved g c =
-    let f = g.S.Totals.at c.args.source.now in
-    record {
-      fits = AllFit-more c.args.prim f c.loop-i.i c.loop-i.invariant.fits c.in-Some.ensures.0;
-      made = so_far_pushed (kind_of c.args.prim) c.args.n f c.loop-i.i (int_of c.in-Some.number)
-          c.loop-i.maker c.push.new.self c.push.ensures c.in-Some.ensures.1
-          c.loop-i.invariant.made;
-    }
+pub finish-requires : goal.finish-requires
+finish-requires g c =
+    let made = c.if-push_totals.ensures.made in
+    let new = c.push_totals.new.maker in
+    made_size (g.S.Totals.at c.args.source.now) c.args.n new.items made.items
+    ∙ sym (made.room ∙ ap (λ (m : Making). m.room) {y = _} c.in_ok-maker.ensures.begun)
