@@ -7,6 +7,7 @@ ghost use Rattle.awk_numbers.specs.Folds.{whole_numbers, lane_numbers};
 ghost use Rattle.awk_parts.specs.Lanes.{extreme_at};
 ghost use Rattle.awk_parts.specs.Spans.{span_count, AreSpanned};
 
+use crate::naturals::natural_extremes;
 use crate::parts::{Parts, span_of};
 use crate::short::short_extremes;
 use crate::wide::{first_place, groups_in, wide_extreme};
@@ -154,7 +155,8 @@ fn long_extremes<'a, L: Ledger>(
 }
 
 /// The least or the greatest number of each part of a lane's numbers, and 0 for a part of none.
-/// There is a loop for each kind of numbers of up to 16 bits, and one for those of i64.
+/// There is a loop for each kind of numbers that fit an i32, one for those of i64 and one for those
+/// of u64.
 pub fn extremes_of<'a, L: Ledger>(
     how: Extreme,
     lane: &Lane,
@@ -176,8 +178,8 @@ pub fn extremes_of<'a, L: Ledger>(
         Whole::I16(groups) => short_extremes::<2, i16, L>(how, lane, groups, parts, arena, steps),
         Whole::U8(groups) => short_extremes::<1, u8, L>(how, lane, groups, parts, arena, steps),
         Whole::U16(groups) => short_extremes::<2, u16, L>(how, lane, groups, parts, arena, steps),
-        Whole::I32(_) | Whole::I64(_) | Whole::U32(_) | Whole::U64(_) => {
-            long_extremes(how, lane, parts, arena, steps)
-        }
+        Whole::I32(groups) => short_extremes::<4, i32, L>(how, lane, groups, parts, arena, steps),
+        Whole::U64(groups) => natural_extremes(how, lane, groups, parts, arena, steps),
+        Whole::I64(_) | Whole::U32(_) => long_extremes(how, lane, parts, arena, steps),
     }
 }

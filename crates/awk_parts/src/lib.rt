@@ -7,7 +7,7 @@
 //! parts have a number. `fitting_lane` makes a lane of any numbers that are judged so (`Totals`).
 //! Numbers that fit an i64 are compared, counted and summed as such, in a loop over the parts for
 //! each kind and each question, which no part asks again; the least and the greatest of numbers of
-//! up to 16 bits are found as i32. The sums of 64 parts with few numbers are differences of running
+//! up to 32 bits with a sign are found as i32. The sums of 64 parts with few numbers are differences of running
 //! sums over a window of these; any other sum of numbers of i64 is made in 128 bits, and a product
 //! goes on in these where it is found in no 64. Whether some or all of a part are not 0 is told at
 //! the first block that settles it; true truth values are counted a block at a time. `number_in` is
@@ -19,6 +19,7 @@ mod extremes;
 mod fits;
 mod folds;
 mod kinds;
+mod naturals;
 mod offsets;
 mod parts;
 mod places;

@@ -1,5 +1,5 @@
 //! The least or the greatest number of each part, of numbers that fit an i32.
-ghost use Rattle.std.specs.Prelude.{◌≡◌, ◌≤◌, length, map, IfOk};
+ghost use Rattle.std.specs.Prelude.{◌≡◌, ◌≤◌, true, length, map, IfOk};
 ghost use Rattle.std.specs.List.{slice_range};
 ghost use Rattle.awk_cells.specs.Extremes.{number_or_zero};
 ghost use Rattle.awk_lanes.specs.Made.{lane_of};
@@ -18,7 +18,7 @@ use std::sync::ledger::Ledger;
 /// The extreme of the numbers from a start below a stop, and 0 of none.
 #[inline(always)]
 fn short_extreme<const W: usize, C: Cell<W>>(how: Extreme, groups: &[[u8; W]], span: Span) -> i32
-    requires short { C.reach ≤ 2147483647 }
+    requires short { C.is_short ≡ true }
     requires order { span.start ≤ span.stop }
     requires within { span.stop ≤ length groups.now }
     ensures { let zs = slice_range (map C.number groups.now) span.start span.stop in
@@ -38,7 +38,7 @@ struct ShortExtremes<'c, 'b, 'a, const W: usize, C: Cell<W>> {
 }
 
 impl<'c, 'b, 'a, const W: usize, C: Cell<W>> Numbers for ShortExtremes<'c, 'b, 'a, W, C> {
-    ghost use Rattle.std.specs.Prelude.{◌≡◌, ◌≤◌, map};
+    ghost use Rattle.std.specs.Prelude.{◌≡◌, ◌≤◌, true, map};
     ghost use Rattle.awk_numbers.specs.Folds.{whole_numbers, lane_numbers};
     ghost use Rattle.awk_parts.specs.Lanes.{extreme_at};
     ghost use Rattle.awk_parts.specs.Spans.{span_count, AreSpanned};
@@ -50,7 +50,7 @@ impl<'c, 'b, 'a, const W: usize, C: Cell<W>> Numbers for ShortExtremes<'c, 'b, '
     ghost size = { λ f. span_count f.parts.now.spans.now };
 
     ghost IsReady = { λ f. (W ≤ 8)
-        × (C.reach ≤ 2147483647)
+        × (C.is_short ≡ true)
         × (whole_numbers f.parts.now.numbers.now ≡ lane_numbers f.lane.now)
         × (whole_numbers f.parts.now.numbers.now ≡ map C.number f.groups.now)
         × AreSpanned (whole_numbers f.parts.now.numbers.now) f.parts.now.spans.now };
@@ -74,7 +74,7 @@ pub(crate) fn short_extremes<'a, const W: usize, C: Cell<W>, L: Ledger>(
     steps: &mut Steps<L>,
 ) -> Result<Lane<'a>, NoMemory>
     requires width { W ≤ 8 }
-    requires short { C.reach ≤ 2147483647 }
+    requires short { C.is_short ≡ true }
     requires numbers { whole_numbers parts.now.numbers.now ≡ lane_numbers lane.now }
     requires cells { whole_numbers parts.now.numbers.now ≡ map C.number groups.now }
     requires parts { AreSpanned (whole_numbers parts.now.numbers.now) parts.now.spans.now }
