@@ -90,6 +90,44 @@ fn window_end(from: u64, count: u64) -> u64
     }
 }
 
+/// Puts the sums of the parts from one place below another, as numbers of a primitive, and tells
+/// whether all are. Where there is no window, none is asked.
+#[inline(always)]
+fn push_sums<S: Totals, M: NumberMaker, L: Ledger>(
+    prim: Prim,
+    from: u64,
+    to: u64,
+    sums: &WindowSums<'_, '_, '_, '_, S>,
+    maker: &mut M,
+    steps: &mut Steps<L>,
+) -> bool
+    requires slices { S.IsReady sums.now.slices.now }
+    requires size { S.size sums.now.slices.now ≡ span_count sums.now.parts.now.spans.now }
+    requires sums { S.at sums.now.slices.now
+        ≡ folded_at fold.Sum (whole_numbers sums.now.parts.now.numbers.now)
+        sums.now.parts.now.spans.now }
+    requires running { AreRunning (whole_numbers sums.now.parts.now.numbers.now)
+        sums.now.window.now }
+    requires parts { AreSpanned (whole_numbers sums.now.parts.now.numbers.now)
+        sums.now.parts.now.spans.now }
+    requires order { from ≤ to }
+    requires within { to ≤ span_count sums.now.parts.now.spans.now }
+    requires room { to ≤ (M.making maker.old).room }
+    requires kind { M.kind maker.old ≡ kind_of prim }
+    requires made { AreFirst prim (folded_at fold.Sum (whole_numbers
+        sums.now.parts.now.numbers.now) sums.now.parts.now.spans.now) (M.making maker.old).room
+        from (M.making maker.old) }
+    ensures kind { M.kind maker.new ≡ kind_of prim }
+    ensures made { ArePushed prim (folded_at fold.Sum (whole_numbers
+        sums.now.parts.now.numbers.now) sums.now.parts.now.spans.now) (M.making maker.old).room
+        to (M.making maker.new) result }
+{
+    if sums.window.is_empty() {
+        return push_totals(prim, from, to, sums.slices, maker, steps);
+    }
+    push_totals(prim, from, to, sums, maker, steps)
+}
+
 /// Puts the sums of all parts, as numbers of a primitive, and tells whether all are. It stops at
 /// the first that is not.
 #[inline(always)]
@@ -130,7 +168,7 @@ fn push_windows<const W: usize, C: Cell<W>, S: Totals, M: NumberMaker, L: Ledger
             window: &window,
             slices,
         };
-        if !push_totals(prim, from, to, &sums, maker, steps) {
+        if !push_sums(prim, from, to, &sums, maker, steps) {
             return false;
         }
         from = to;
