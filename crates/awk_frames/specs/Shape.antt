@@ -19,6 +19,10 @@ pub data Shape : Type 0 where
 abbrev pub offsets_column : List Value → Column
 offsets_column vs = record { kind = I64; items = offsets 0 vs }
 
+-- the numbers of an index as a column of i64, whatever its width
+abbrev pub numbers_of : Column → Column
+numbers_of j = record { kind = I64; items = j.items }
+
 -- an index that counts what is not null
 abbrev pub index_column : List Value → Column
 index_column vs = record { kind = I64; items = option_index 0 vs }

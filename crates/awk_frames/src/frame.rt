@@ -1,11 +1,12 @@
 //! Lists and nulls over ends.
 
+use crate::option_lane::OptionLane;
 use awk_lanes::Lane;
 
 /// Lists and nulls over ends.
 ///
 /// A frame of ends has as many places as ends, one of lists one fewer than its offsets, and one
-/// with nulls as many as its index. Its lanes are of i64. The first offset is 0 and the last one is
+/// with nulls as many as its index. Its offsets are of i64. The first one is 0 and the last one is
 /// the number of places below. The numbers of an index that are not negative are 0, 1 and so on,
 /// one for each place below.
 #[cycle(frame)]
@@ -21,7 +22,7 @@ pub enum Frame<'a> {
     },
     /// What is below, with nulls.
     Missing {
-        index: Lane<'a>,
+        index: OptionLane<'a>,
         below: Box<Frame<'a>>,
     },
 }

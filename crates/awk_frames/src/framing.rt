@@ -6,7 +6,7 @@ ghost use Rattle.awk_types.specs.Has.{Has};
 ghost use Rattle.awk_types.specs.Value.{Value};
 ghost use Rattle.awk_columns.specs.Joined.{AreOffsets};
 ghost use Rattle.awk_columns.specs.ListNode.{AreEven, list_layout};
-ghost use Rattle.awk_frames.specs.Framed.{IsFrame, places, framed_layout, over, over_type};
+ghost use Rattle.awk_frames.specs.Framed.{IsFrame, IsAlike, places, framed_layout, over, over_type};
 ghost use Rattle.awk_frames.specs.Shape.{shape as shape_by, ends as ends_by};
 ghost use Rattle.awk_frames.specs.View.{shape_of};
 ghost use Rattle.awk_lanes.specs.Places.{size_of};
@@ -48,7 +48,7 @@ fn node_under<'a, L: Ledger>(
     steps: &mut Steps<L>,
 ) -> Result<Node<'a>, NoMemory>
     requires { IsFrame (shape_of shape.now) (len ends) }
-    ensures { IfOk result (λ y. y ≡ framed_layout (shape_of shape.now) ends.entry) }
+    ensures { IfOk result (IsAlike (framed_layout (shape_of shape.now) ends.entry)) }
 {
     match shape {
         Frame::Leaf(_) => Ok(ends),
@@ -63,7 +63,7 @@ fn node_under<'a, L: Ledger>(
         Frame::Missing { index, below } => {
             let content = node_under(alloc, below, ends, steps)?;
             let content = Box::new(alloc, content)?;
-            Ok(Node::indexed_option(index.copy(), content, steps))
+            Ok(Node::indexed_option(index.lane(), content, steps))
         }
     }
 }

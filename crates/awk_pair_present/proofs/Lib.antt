@@ -2,3 +2,4 @@ mod OneOption
 mod PresenceLaws
 mod MaskedNumbers
 mod KeptMasks
+mod NarrowIndexes

@@ -1,7 +1,7 @@
 -- The rows in which all items are there, from each operand's items that are.
 use Rattle.std.proofs.Common.{◌≡◌, ℕ, zero, suc, ◌+◌, ◌-◌, ◌<◌, ◌≤◌, Bool, true, false, ◌&&◌}
 use Rattle.std.proofs.Common.{refl, ap, arith, sym, subst, ◌∙◌, drop, take}
-use Rattle.std.specs.Prelude.{List, [], ◌∷◌, ◌++◌, map, filter, length, slice_get, Some}
+use Rattle.std.specs.Prelude.{List, [], ◌∷◌, ◌++◌, map, filter, length, slice_get, Some, None}
 use Rattle.std.specs.Prelude.{ℤ, pos, negsuc, ◌<ℤ◌, ◌≤ℤ◌, ◌^◌, nat_lt, cond, if◌then◌else◌}
 use Rattle.std.specs.List.{list_all, flat_map, range_with_len}
 use Rattle.std.proofs.lemmas.Int.{ints}
@@ -108,6 +108,14 @@ some-place : (z : ℤ) → is_some (option_place z) ≡ true
     → (pos 0 ≤ℤ z) × (option_place z ≡ Some (nat_of z))
 some-place (pos k) e = (omega (arith, ints), refl)
 some-place (negsuc k) e = cc
+
+pub there-is : (z : ℤ) (k : ℕ) → option_place z ≡ Some k → pos k ≡ z
+there-is (pos a) k e = cc
+there-is (negsuc a) k e = cc
+
+pub there-none : (z : ℤ) → pos 0 ≤ℤ z → option_place z ≡ None → ⊥
+there-none (pos a) h e = cc
+there-none (negsuc a) h e = absurd (omega (arith, ints, h))
 
 place-below : (z : ℤ) (n : ℕ) → pos 0 ≤ℤ z → z <ℤ pos n → nat_of z < n
 place-below (pos k) n h l = omega (arith, ints, l)

@@ -6,10 +6,17 @@ use Rattle.awk_lanes.specs.declared.kind.Kind.TheVariants.{I64}
 use Rattle.awk_layout.specs.Layout.{Layout}
 use Rattle.awk_layout.specs.Typing.{array_type}
 use Rattle.awk_open.specs.Opened.{AreLong}
+use Rattle.awk_open.specs.declared.opening.Opened.{Opened}
+use Rattle.awk_open.specs.declared.opening.Opened.TheVariants.{Option as Optional}
 use Rattle.awk_pair_sides.specs.Levels.{some_option}
 use Rattle.awk_pair_sides.specs.Rows.{rows_at, flags_index}
 use Rattle.awk_pair_sides.specs.Sides.{is_whole}
+use Rattle.awk_pair_present.specs.declared.numbers.OrderedOption.{OrderedOption}
 use Rattle.awk_pair_present.specs.declared.present.PresentRows.{PresentRows}
+
+-- the outermost kind that it is
+abbrev pub opened_option : OrderedOption → Opened
+opened_option r = Optional r.index r.content
 
 -- ys are the rows of xs that have no null, with an index that counts these
 pub record ArePresent (n : ℕ) (xs : List Layout) (j : Column) (m : ℕ) (ys : List Layout)

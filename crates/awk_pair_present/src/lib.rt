@@ -4,6 +4,7 @@
 #![tactic(auto)]
 
 mod numbers;
+mod option_places;
 mod presence;
 mod present;
 

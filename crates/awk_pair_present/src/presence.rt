@@ -1,7 +1,10 @@
 //! Which items of operands are there, and their items at places where they are.
 ghost use Rattle.std.specs.Prelude.{◌≡◌, ℕ, ◌<◌, ◌≤◌, ◌^◌, ◌≤ℤ◌, ◌&&◌, pos, true, IfOk};
+ghost use Rattle.std.specs.Prelude.{IfSome};
+ghost use Rattle.awk_types.specs.Simple.{is_option};
 ghost use Rattle.awk_lanes.specs.Places.{size_of, at, place_at};
 ghost use Rattle.awk_lanes.specs.declared.kind.Kind.TheVariants as Kind;
+ghost use Rattle.awk_layout.specs.Typing.{array_type};
 ghost use Rattle.awk_layout.specs.Valid.{len};
 ghost use Rattle.awk_open.specs.Opened.{AreLong};
 ghost use Rattle.awk_pair_present.specs.Presence.{is_there as is_there_at};
@@ -9,11 +12,13 @@ ghost use Rattle.awk_pair_present.specs.Presence.{are_there as are_there_at};
 ghost use Rattle.awk_pair_present.specs.Presence.{IsPresence, ArePresences, IsAsLong, AreAsLong};
 ghost use Rattle.awk_pair_present.specs.Presence.{AreKeptOf, AllKeptOf, IsTaken, AreTaken};
 
+use crate::option_places::OptionPlaces;
 use awk_gather::gather;
-use awk_index::{Index, index_of, wide_index};
+use awk_index::{Index, wide_index};
 use awk_lanes::{Arena, Kind, Lane, NoMemory, Num, Numbers, Steps, made_lane, number, to_place};
-use awk_layout::{Array, Arrays};
-use awk_open::{Opened, opened};
+use awk_layout::{Array, Arrays, Class};
+use awk_narrow::OptionIndex;
+use awk_open::{Opened, mask_index, opened};
 use awk_types::is_optional;
 use std::alloc::Global;
 use std::sync::ledger::Ledger;
@@ -25,9 +30,54 @@ pub(crate) enum Presence<'a> {
     All(Array<'a>),
     /// Null where the index is negative, else the content's item there.
     Indexed {
-        index: Index<'a>,
+        index: OptionPlaces<'a>,
         content: Array<'a>,
     },
+}
+
+/// A mask of bytes over numbers by those that are there, as it lies, or none of another array.
+fn masked_presence<'a, L: Ledger>(
+    alloc: Global,
+    x: &Array<'a>,
+    steps: &mut Steps<L>,
+) -> Result<Option<Presence<'a>>, NoMemory>
+    ensures { IfOk result (λ o. IfSome o (IsPresence (len x.now) x.now)) }
+{
+    let _ = x.len();
+    match x.node().class() {
+        Class::ByteMasked {
+            mask,
+            valid_when,
+            content,
+        } => match content.class() {
+            Class::Numpy { .. } => {
+                let index = OptionPlaces::of_mask(mask_index(mask, valid_when, steps));
+                let content = Array::of_node(alloc, content.copy(alloc)?)?;
+                Ok(Some(Presence::Indexed { index, content }))
+            }
+            _ => Ok(None),
+        },
+        _ => Ok(None),
+    }
+}
+
+/// Any option by those of its items that are there.
+fn opened_presence<'a, L: Ledger>(
+    alloc: Global,
+    x: &Array<'a>,
+    arena: &'a Arena,
+    steps: &mut Steps<L>,
+) -> Result<Presence<'a>, NoMemory>
+    requires option { is_option (array_type x.now) ≡ true }
+    ensures { IfOk result (IsPresence (len x.now) x.now) }
+{
+    match opened(alloc, x, arena, steps)? {
+        Opened::Option { index, content } => {
+            let index = OptionPlaces::of_lane(alloc, &index, arena, steps)?;
+            Ok(Presence::Indexed { index, content })
+        }
+        _ => unreachable!(),
+    }
 }
 
 /// An operand's items by those that are there.
@@ -43,15 +93,9 @@ fn presence_of<'a, L: Ledger>(
     if !is_optional(x.typ()) {
         return Ok(Presence::All(x.copy(alloc)?));
     }
-    match opened(alloc, x, arena, steps)? {
-        Opened::Option { index, content } => {
-            let places = index_of(alloc, &index, arena, steps)?;
-            Ok(Presence::Indexed {
-                index: places,
-                content,
-            })
-        }
-        _ => unreachable!(),
+    match masked_presence(alloc, x, steps)? {
+        Some(presence) => Ok(presence),
+        None => opened_presence(alloc, x, arena, steps),
     }
 }
 
@@ -83,7 +127,7 @@ fn is_there(presence: &Presence, n: u64, i: u64) -> bool
 {
     match presence {
         Presence::All(_) => true,
-        Presence::Indexed { index, .. } => index.option_place(i).is_some(),
+        Presence::Indexed { index, .. } => index.place(i).is_some(),
     }
 }
 
@@ -112,7 +156,7 @@ pub(crate) fn are_there(presences: &[Presence], n: u64, i: u64) -> bool
 /// Where the items at places lie among those that are there.
 #[derive(Drop)]
 struct PlacesThere<'b, 'a> {
-    index: &'b Index<'a>,
+    index: &'b OptionPlaces<'a>,
     places: &'b Index<'a>,
 }
 
@@ -132,7 +176,10 @@ impl<'b, 'a> Numbers for PlacesThere<'b, 'a> {
 
     fn number<L: Ledger>(&self, q: u64, _steps: &mut Steps<L>) -> Num {
         let i = to_place(self.places.number(q));
-        number(to_place(self.index.number(i)))
+        match self.index.place(i) {
+            Some(place) => number(place),
+            None => unreachable!(),
+        }
     }
 }
 

@@ -10,13 +10,13 @@ ghost use Rattle.awk_open.specs.declared.opening.Opened.TheVariants as opening;
 ghost use Rattle.awk_open.specs.InOrder.{IsInOrder};
 ghost use Rattle.awk_layout.specs.Layout.{Layout};
 ghost use Rattle.awk_pair_present.specs.Presence.{AreAsLong, ArePresences};
-ghost use Rattle.awk_pair_present.specs.Present.{IsPresentRows};
+ghost use Rattle.awk_pair_present.specs.Present.{IsPresentRows, opened_option};
 
-use crate::numbers::{masked_numbers, present_numbers};
+use crate::numbers::{OrderedOption, indexed_numbers, masked_numbers};
 use crate::presence::{Presence, all_taken, are_there, presences_of};
 use awk_columns::places_of;
-use awk_counts::{count_present, counted};
-use awk_index::index_of;
+use awk_counts::{count_present, counted_narrow};
+use awk_frames::OptionLane;
 use awk_lanes::{
     Arena, Items, Kind, Lane, Lengths, NoMemory, Num, Numbers, Steps, made_lane, number,
 };
@@ -31,7 +31,7 @@ use std::sync::ledger::Ledger;
 /// The rows without a null, and an index over them that counts up, and is -1 for each other row.
 #[derive(Drop)]
 pub struct PresentRows<'a> {
-    pub index: Lane<'a>,
+    pub index: OptionLane<'a>,
     pub count: u64,
     pub arrays: Arrays<'a>,
 }
@@ -124,7 +124,8 @@ fn kept_rows<'a, L: Ledger>(
     let shown = mask_index(&mask, true, steps);
     let count = count_present(&shown);
     let places = places_of(n, count, &ShownRows { index: &shown }, arena, steps)?;
-    let index = counted(&shown, arena)?;
+    let numbers = counted_narrow(&shown, arena)?;
+    let index = OptionLane::new(numbers);
     let arrays = all_taken(alloc, presences, n, &places, arena, steps)?;
     Ok(PresentRows {
         index,
@@ -145,26 +146,45 @@ fn only_option<'b, 'a>(xs: &'b Arrays<'a>) -> Option<&'b Array<'a>>
     if is_optional(x.typ()) { Some(x) } else { None }
 }
 
-/// An option by its index and its content, in order: numbers are moved at once.
+/// An option in order, whatever lies in it.
 fn option_in_order<'a, L: Ledger>(
+    alloc: Global,
+    x: &Array<'a>,
+    arena: &'a Arena,
+    steps: &mut Steps<L>,
+) -> Result<OrderedOption<'a>, NoMemory>
+    requires option { is_option (array_type x.now) ≡ true }
+    ensures opened { IfOk result (λ r. IsOpened x.now (opened_option r)) }
+    ensures inner { IfOk result (λ r. IsInner (opened_option r)) }
+    ensures order { IfOk result (λ r. IsInOrder (array_items x.now) (opened_option r)) }
+{
+    match in_order(alloc, x, arena, steps)? {
+        Opened::Option { index, content } => Ok(OrderedOption {
+            index: OptionLane::new(index),
+            content,
+        }),
+        _ => unreachable!(),
+    }
+}
+
+/// An option by its index and its content, in order: numbers are moved at once.
+fn named_in_order<'a, L: Ledger>(
     alloc: Global,
     x: &Array<'a>,
     index: &Lane<'a>,
     content: &Array<'a>,
     arena: &'a Arena,
     steps: &mut Steps<L>,
-) -> Result<Opened<'a>, NoMemory>
-    requires { IsOpened x.now (opening.Option index.now content.now) }
-    ensures opened { IfOk result (IsOpened x.now) }
-    ensures inner { IfOk result IsInner }
-    ensures order { IfOk result (IsInOrder (array_items x.now)) }
+) -> Result<OrderedOption<'a>, NoMemory>
+    requires opened { IsOpened x.now (opening.Option index.now content.now) }
+    requires option { is_option (array_type x.now) ≡ true }
+    ensures opened { IfOk result (λ r. IsOpened x.now (opened_option r)) }
+    ensures inner { IfOk result (λ r. IsInner (opened_option r)) }
+    ensures order { IfOk result (λ r. IsInOrder (array_items x.now) (opened_option r)) }
 {
     match content.node().class() {
-        Class::Numpy { lane } => {
-            let index = index_of(alloc, index, arena, steps)?;
-            present_numbers(alloc, &index, lane, arena, steps)
-        }
-        _ => in_order(alloc, x, arena, steps),
+        Class::Numpy { lane } => indexed_numbers(alloc, index, lane, arena, steps),
+        _ => option_in_order(alloc, x, arena, steps),
     }
 }
 
@@ -174,15 +194,15 @@ fn numbers_in_order<'a, L: Ledger>(
     x: &Array<'a>,
     arena: &'a Arena,
     steps: &mut Steps<L>,
-) -> Result<Opened<'a>, NoMemory>
+) -> Result<OrderedOption<'a>, NoMemory>
     requires option { is_option (array_type x.now) ≡ true }
-    ensures opened { IfOk result (IsOpened x.now) }
-    ensures inner { IfOk result IsInner }
-    ensures order { IfOk result (IsInOrder (array_items x.now)) }
+    ensures opened { IfOk result (λ r. IsOpened x.now (opened_option r)) }
+    ensures inner { IfOk result (λ r. IsInner (opened_option r)) }
+    ensures order { IfOk result (λ r. IsInOrder (array_items x.now) (opened_option r)) }
 {
     match opened(alloc, x, arena, steps)? {
         Opened::Option { index, content } => {
-            option_in_order(alloc, x, &index, &content, arena, steps)
+            named_in_order(alloc, x, &index, &content, arena, steps)
         }
         _ => unreachable!(),
     }
@@ -194,10 +214,11 @@ fn masked_in_order<'a, L: Ledger>(
     x: &Array<'a>,
     arena: &'a Arena,
     steps: &mut Steps<L>,
-) -> Result<Option<Opened<'a>>, NoMemory>
-    ensures opened { IfOk result (λ o. IfSome o (IsOpened x.now)) }
-    ensures inner { IfOk result (λ o. IfSome o IsInner) }
-    ensures order { IfOk result (λ o. IfSome o (IsInOrder (array_items x.now))) }
+) -> Result<Option<OrderedOption<'a>>, NoMemory>
+    ensures opened { IfOk result (λ o. IfSome o (λ r. IsOpened x.now (opened_option r))) }
+    ensures inner { IfOk result (λ o. IfSome o (λ r. IsInner (opened_option r))) }
+    ensures order { let IsOrdered = IsInOrder (array_items x.now) in
+        IfOk result (λ o. IfSome o (λ r. IsOrdered (opened_option r))) }
 {
     let _ = x.len();
     match x.node().class() {
@@ -223,11 +244,11 @@ fn ordered<'a, L: Ledger>(
     x: &Array<'a>,
     arena: &'a Arena,
     steps: &mut Steps<L>,
-) -> Result<Opened<'a>, NoMemory>
+) -> Result<OrderedOption<'a>, NoMemory>
     requires option { is_option (array_type x.now) ≡ true }
-    ensures opened { IfOk result (IsOpened x.now) }
-    ensures inner { IfOk result IsInner }
-    ensures order { IfOk result (IsInOrder (array_items x.now)) }
+    ensures opened { IfOk result (λ r. IsOpened x.now (opened_option r)) }
+    ensures inner { IfOk result (λ r. IsInner (opened_option r)) }
+    ensures order { IfOk result (λ r. IsInOrder (array_items x.now) (opened_option r)) }
 {
     if let Some(numbers) = masked_in_order(alloc, x, arena, steps)? {
         return Ok(numbers);
@@ -235,7 +256,7 @@ fn ordered<'a, L: Ledger>(
     if has_numbers(x) {
         return numbers_in_order(alloc, x, arena, steps);
     }
-    in_order(alloc, x, arena, steps)
+    option_in_order(alloc, x, arena, steps)
 }
 
 /// The items of one operand that are there: its option in order.
@@ -250,19 +271,15 @@ fn present_items<'a, L: Ledger>(
     requires option { is_option (array_type x.now) ≡ true }
     ensures { IfOk result (IsPresentRows n (x.now ∷ [])) }
 {
-    match ordered(alloc, x, arena, steps)? {
-        Opened::Option { index, content } => {
-            let count = content.len();
-            let mut arrays = Arrays::new(alloc);
-            arrays.push(content)?;
-            Ok(PresentRows {
-                index,
-                count,
-                arrays,
-            })
-        }
-        _ => unreachable!(),
-    }
+    let OrderedOption { index, content } = ordered(alloc, x, arena, steps)?;
+    let count = content.len();
+    let mut arrays = Arrays::new(alloc);
+    arrays.push(content)?;
+    Ok(PresentRows {
+        index,
+        count,
+        arrays,
+    })
 }
 
 /// The rows without a null. One operand alone is opened in order, and no row is looked at.

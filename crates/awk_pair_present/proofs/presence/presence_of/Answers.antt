@@ -1,16 +1,6 @@
-use Rattle.std.proofs.Common.{◌∙◌, ap, sym, subst}
+use Rattle.std.proofs.Common.{◌∙◌, ap, sym}
 use Rattle.awk_types.specs.Simple.{is_option}
-use Rattle.awk_lanes.specs.Column.{Column}
-use Rattle.awk_lanes.proofs.PlaceLaws.{option-index}
-use Rattle.awk_layout.specs.Typing.{array_type}
-use Rattle.awk_layout.specs.Valid.{len}
-use Rattle.awk_open.specs.Inner.{IsInner}
-use Rattle.awk_open.specs.Opened.{IsOpened}
-use Rattle.awk_open.specs.declared.opening.Opened.TheVariants.{Option as Optional}
-use Rattle.awk_open.proofs.OnlyKinds.{only_option}
-use Rattle.awk_pair_present.specs.Presence.{IsPresence}
-use Rattle.awk_pair_present.specs.declared.presence.Presence.TheVariants.{Indexed}
-use Rattle.awk_pair_present.proofs.PresenceLaws.{whole_presence, indexed_presence}
+use Rattle.awk_pair_present.proofs.PresenceLaws.{whole_presence}
 use Rattle.awk_pair_present.proofs.presence.presence_of.Goals as goal
 
 pub returns-then-not-is_optional : goal.returns-then-not-is_optional
@@ -18,25 +8,9 @@ returns-then-not-is_optional g c =
     whole_presence c.args.x.now c.in_ok-copy.field-0 c.in_ok-copy.ensures c.len.ensures.valid
     (ap is_option (sym c.typ.ensures.typ) ∙ sym c.is_optional.ensures ∙ c.if-not-is_optional.true)
 
-pub index_of-requires : goal.index_of-requires
-index_of-requires g c =
-    let o : IsOpened c.args.x.now (Optional c.in-Option.index c.in-Option.content) =
-    rw c.in-Option.is at c.in_ok-index.ensures.opened in
-    option-index c.in-Option.index.kind o.valid.1.kind
-
-pub returns : goal.returns
-returns g c =
-    let o : IsOpened c.args.x.now (Optional c.in-Option.index c.in-Option.content) =
-    rw c.in-Option.is at c.in_ok-index.ensures.opened in
-    let i : IsInner (Optional c.in-Option.index c.in-Option.content) =
-    rw c.in-Option.is at c.in_ok-index.ensures.inner in
-    subst
-    (λ (j : Column). IsPresence (len c.args.x.now) c.args.x.now (Indexed j c.in-Option.content))
-    (sym c.in_ok-places-in-Option.ensures)
-    (indexed_presence c.args.x.now c.in-Option.index c.in-Option.content o i)
-
-pub unreachable-requires : goal.unreachable-requires
-unreachable-requires g c =
-    only_option (array_type c.args.x.now) c.in_ok-index.field-0 c.in_ok-index.ensures.opened.kind
-    (ap is_option (sym c.typ.ensures.typ) ∙ sym c.is_optional.ensures ∙ c.if-not-is_optional.false)
-    c.in_default.not-Option
+pub opened_presence-requires : goal.opened_presence-requires
+opened_presence-requires g c = record {
+  option =
+      ap is_option (sym c.typ.ensures.typ) ∙ sym c.is_optional.ensures
+      ∙ c.if-not-is_optional.false;
+}
