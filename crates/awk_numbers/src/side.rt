@@ -51,6 +51,6 @@ impl Side for Greater {
 
     #[inline(always)]
     fn beats_natural(x: u64, y: u64) -> bool {
-        y < x
+        x > y
     }
 }
