@@ -20,6 +20,9 @@ use std::sync::ledger::Ledger;
 /// How many parts have a window of their own.
 const PARTS: u64 = 64;
 
+/// From how many numbers a part on, on average, a loop over each part is as fast.
+const LONG: u64 = 8;
+
 /// The sums of parts: those that a window has, and any other as it is summed without one.
 #[derive(Drop)]
 struct WindowSums<'c, 'b, 'a, 'w, S: Totals> {
@@ -90,44 +93,6 @@ fn window_end(from: u64, count: u64) -> u64
     }
 }
 
-/// Puts the sums of the parts from one place below another, as numbers of a primitive, and tells
-/// whether all are. Where there is no window, none is asked.
-#[inline(always)]
-fn push_sums<S: Totals, M: NumberMaker, L: Ledger>(
-    prim: Prim,
-    from: u64,
-    to: u64,
-    sums: &WindowSums<'_, '_, '_, '_, S>,
-    maker: &mut M,
-    steps: &mut Steps<L>,
-) -> bool
-    requires slices { S.IsReady sums.now.slices.now }
-    requires size { S.size sums.now.slices.now ≡ span_count sums.now.parts.now.spans.now }
-    requires sums { S.at sums.now.slices.now
-        ≡ folded_at fold.Sum (whole_numbers sums.now.parts.now.numbers.now)
-        sums.now.parts.now.spans.now }
-    requires running { AreRunning (whole_numbers sums.now.parts.now.numbers.now)
-        sums.now.window.now }
-    requires parts { AreSpanned (whole_numbers sums.now.parts.now.numbers.now)
-        sums.now.parts.now.spans.now }
-    requires order { from ≤ to }
-    requires within { to ≤ span_count sums.now.parts.now.spans.now }
-    requires room { to ≤ (M.making maker.old).room }
-    requires kind { M.kind maker.old ≡ kind_of prim }
-    requires made { AreFirst prim (folded_at fold.Sum (whole_numbers
-        sums.now.parts.now.numbers.now) sums.now.parts.now.spans.now) (M.making maker.old).room
-        from (M.making maker.old) }
-    ensures kind { M.kind maker.new ≡ kind_of prim }
-    ensures made { ArePushed prim (folded_at fold.Sum (whole_numbers
-        sums.now.parts.now.numbers.now) sums.now.parts.now.spans.now) (M.making maker.old).room
-        to (M.making maker.new) result }
-{
-    if sums.window.is_empty() {
-        return push_totals(prim, from, to, sums.slices, maker, steps);
-    }
-    push_totals(prim, from, to, sums, maker, steps)
-}
-
 /// Puts the sums of all parts, as numbers of a primitive, and tells whether all are. It stops at
 /// the first that is not.
 #[inline(always)]
@@ -168,7 +133,7 @@ fn push_windows<const W: usize, C: Cell<W>, S: Totals, M: NumberMaker, L: Ledger
             window: &window,
             slices,
         };
-        if !push_sums(prim, from, to, &sums, maker, steps) {
+        if !push_totals(prim, from, to, &sums, maker, steps) {
             return false;
         }
         from = to;
@@ -249,7 +214,7 @@ fn window_nats<'a, const W: usize, C: Cell<W>, S: Totals, L: Ledger>(
 }
 
 /// The sums of parts as numbers of a primitive, or none where one does not fit. `slices` has them
-/// without a window.
+/// without a window, as which they are taken where the parts have many numbers.
 #[inline(always)]
 pub(crate) fn window_lane<'a, const W: usize, C: Cell<W>, S: Totals, L: Ledger>(
     prim: Prim,
@@ -269,9 +234,13 @@ pub(crate) fn window_lane<'a, const W: usize, C: Cell<W>, S: Totals, L: Ledger>(
         (whole_numbers parts.now.numbers.now) parts.now.spans.now)
         (span_count parts.now.spans.now)) }
 {
+    let count = parts.spans.starts.len() as u64;
+    if groups.len() as u64 / LONG >= count {
+        return fitting_lane(prim, count, slices, arena, steps);
+    }
     match prim {
         Prim::I64 => window_ints::<W, C, S, L>(groups, parts, slices, arena, steps),
         Prim::U64 => window_nats::<W, C, S, L>(groups, parts, slices, arena, steps),
-        _ => fitting_lane(prim, parts.spans.starts.len() as u64, slices, arena, steps),
+        _ => fitting_lane(prim, count, slices, arena, steps),
     }
 }

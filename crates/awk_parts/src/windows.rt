@@ -9,8 +9,8 @@ use crate::parts::{Parts, bounds_of};
 use awk_cells::{Cell, number_at};
 use awk_lanes::{Arena, NoMemory};
 
-/// How many numbers a window has at most: longer lists are summed one by one as fast.
-const MOST: u64 = 512;
+/// How many numbers a window has at most.
+const MOST: u64 = 1024;
 
 /// Sums of the numbers from a place on: sum k is that of the first k of them. There are `count`.
 #[derive(Drop)]
@@ -71,12 +71,6 @@ impl<'a> RunningSums<'a> {
             let part = &groups[first as usize..stop as usize];
             self.count = write_sums::<W, C>(part, self.sums.as_mut_slice());
         }
-    }
-
-    /// Whether there are none.
-    #[inline(always)]
-    pub(crate) fn is_empty(&self) -> bool {
-        self.count == 0
     }
 
     /// The sum of part i, where the window has where it begins and where it ends, and the sum fits
