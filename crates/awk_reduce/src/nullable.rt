@@ -282,8 +282,8 @@ fn reduced_each<'a, P: Places, L: Ledger>(
     }
 }
 
-/// What is made of lists of whose items some may be null, by how these lie. Where a mask of bytes
-/// tells that, as where `put_mask` made it, there is a loop for each kind.
+/// What is made of lists of whose items some may be null, by how these lie. Where an index or a mask
+/// of bytes tells that, as where `put_mask` made it, there is a loop for each kind.
 pub(crate) fn reduced_opened<'a, L: Ledger>(
     alloc: Global,
     how: Reducer,
@@ -299,10 +299,10 @@ pub(crate) fn reduced_opened<'a, L: Ledger>(
 {
     match leaves {
         Nullable::Indexed { index, lane } => {
-            reduced_in(alloc, how, bounds, lane, index, arena, steps)
+            reduced_each(alloc, how, bounds, lane, index, arena, steps)
         }
         Nullable::Narrow { index, lane } => {
-            reduced_in(alloc, how, bounds, lane, index, arena, steps)
+            reduced_each(alloc, how, bounds, lane, index, arena, steps)
         }
         Nullable::Bytes { mask, lane } => {
             reduced_each(alloc, how, bounds, lane, mask, arena, steps)
