@@ -15,6 +15,7 @@ use awk_counts::present_counts;
 use awk_index::{Index, index_of};
 use awk_lanes::{Arena, IndexMaker, Lane, Num, Steps, number};
 use awk_list_ends::{numbers_at_ends, span_or};
+use awk_narrow::OptionIndex;
 use awk_types::NoMemory;
 use std::alloc::Global;
 use std::sync::ledger::Ledger;
@@ -28,11 +29,11 @@ pub(crate) struct Ends<'a> {
 
 /// 1 where the index of an option names an item, else 0.
 #[inline(always)]
-fn one_if_named(index: &Index, i: u64) -> u64
-    requires within { i < size_of index.now }
-    ensures { result ≡ length (present_at index.now i) }
+fn one_if_named<P: OptionIndex>(index: &P, i: u64) -> u64
+    requires within { i < size_of (P.lane index.now) }
+    ensures { result ≡ length (present_at (P.lane index.now) i) }
 {
-    match index.option_place(i) {
+    match index.place(i) {
         Some(_) => 1,
         None => 0,
     }
@@ -40,11 +41,11 @@ fn one_if_named(index: &Index, i: u64) -> u64
 
 /// How many items are present from a place on below another.
 #[inline(always)]
-pub(crate) fn count_between(index: &Index, start: u64, stop: u64) -> u64
+pub(crate) fn count_between<P: OptionIndex>(index: &P, start: u64, stop: u64) -> u64
     requires order { start ≤ stop }
-    requires within { stop ≤ size_of index.now }
-    ensures { length (first_of (present_at index.now) start) + result
-        ≡ length (first_of (present_at index.now) stop) }
+    requires within { stop ≤ size_of (P.lane index.now) }
+    ensures { let present = present_at (P.lane index.now) in
+        length (first_of present start) + result ≡ length (first_of present stop) }
 {
     let mut count = 0;
     for i in start..stop {

@@ -15,11 +15,12 @@ ghost use Rattle.awk_nulls.specs.Lanes.{null_number, nulls_lane, falses_lane, Ar
 use crate::presence::has_options;
 use awk_axis::lift_at;
 use awk_columns::{Joined, Lists};
-use awk_index::{Index, index_of};
+use awk_index::index_of;
 use awk_lanes::{Arena, Kind, Lane, Num, Numbers, Steps, made_lane, offsets_within};
 use awk_layout::{Array, Datum, Node};
 use awk_list_ends::are_few;
 use awk_list_functions::{ListOp, Made, Refusal, Spoil};
+use awk_narrow::{OptionIndex, narrow_index};
 use awk_open::{Opened, opened};
 use awk_types::{Fault, ITEM_LIMIT, NoMemory, Prim, Typ, is_optional};
 use std::alloc::Global;
@@ -38,27 +39,44 @@ fn null_number(place: Option<u64>) -> Num
 
 /// Whether each item of an option is null.
 #[derive(Drop)]
-struct NullNumbers<'b, 'a> {
-    index: &'b Index<'a>,
+struct NullNumbers<'b, I: OptionIndex> {
+    index: &'b I,
 }
 
-impl<'b, 'a> Numbers for NullNumbers<'b, 'a> {
+impl<'b, I: OptionIndex> Numbers for NullNumbers<'b, I> {
     ghost use Rattle.awk_lanes.specs.Places.{size_of, option_place_at};
     ghost use Rattle.awk_lanes.specs.declared.kind.Kind.TheVariants as Kinds;
     ghost use Rattle.awk_nulls.specs.Lanes.{null_number};
 
     ghost kind = { λ _. Kinds.Bool };
 
-    ghost at = { λ f i. null_number (option_place_at f.index.now i) };
+    ghost at = { λ f i. null_number (option_place_at (I.lane f.index.now) i) };
 
-    ghost size = { λ f. size_of f.index.now };
+    ghost size = { λ f. size_of (I.lane f.index.now) };
 
     fn number<L: Ledger>(&self, i: u64, _steps: &mut Steps<L>) -> Num {
-        null_number(self.index.option_place(i))
+        null_number(self.index.place(i))
     }
 }
 
-/// The same as a lane.
+/// The same as a lane, by an index whose numbers are seen at once.
+fn nulls_by<'a, I: OptionIndex, L: Ledger>(
+    index: &I,
+    arena: &'a Arena,
+    steps: &mut Steps<L>,
+) -> Result<Lane<'a>, NoMemory>
+    ensures { IfOk result (λ r. r ≡ nulls_lane (I.lane index.now)) }
+{
+    made_lane(
+        Kind::Bool,
+        index.size(),
+        &NullNumbers { index },
+        arena,
+        steps,
+    )
+}
+
+/// The same by a lane of an index. One of 32 bits is read where it lies.
 fn nulls<'a, L: Ledger>(
     alloc: Global,
     index: &Lane<'a>,
@@ -68,9 +86,12 @@ fn nulls<'a, L: Ledger>(
     requires kind { IsOptionKind index.now.kind }
     ensures { IfOk result (λ r. r ≡ nulls_lane index.now) }
 {
+    if index.kind() == Kind::I32 {
+        let index = narrow_index(index, steps);
+        return nulls_by(&index, arena, steps);
+    }
     let index = index_of(alloc, index, arena, steps)?;
-    let nulls = NullNumbers { index: &index };
-    made_lane(Kind::Bool, index.len(), &nulls, arena, steps)
+    nulls_by(&index, arena, steps)
 }
 
 /// False at each place.

@@ -1,7 +1,10 @@
 //! The items of an array that are not null.
-ghost use Rattle.std.specs.Prelude.{◌≡◌, ◌<◌, ◌+◌, true, IfOk};
+ghost use Rattle.std.specs.Prelude.{◌≡◌, ◌<◌, ◌+◌, ◌^◌, true, IfOk};
 ghost use Rattle.awk_types.specs.Simple.{is_option};
+ghost use Rattle.awk_lanes.specs.Places.{size_of, IsOptionalIndex};
+ghost use Rattle.awk_layout.specs.Layout.{flat};
 ghost use Rattle.awk_layout.specs.Typing.{array_type};
+ghost use Rattle.awk_counts.specs.Counted.{first_of, present_at, numbers_at};
 ghost use Rattle.awk_open.specs.Opened.{IsOpened};
 ghost use Rattle.awk_open.specs.declared.opening.Opened.TheVariants as Opened;
 ghost use Rattle.awk_nulls.specs.Lanes.{ArePresent, HasPresent};
@@ -9,9 +12,10 @@ ghost use Rattle.awk_nulls.specs.Lanes.{ArePresent, HasPresent};
 use awk_columns::Lists;
 use awk_counts::present_counts;
 use awk_index::index_of;
-use awk_lanes::{Arena, Lane, Steps, ordinals};
+use awk_lanes::{Arena, Kind, Lane, Steps, ordinals};
 use awk_layout::{Array, Class};
 use awk_list_numbers::{has_numbers, named_numbers};
+use awk_narrow::narrow_index;
 use awk_open::{Opened, open_array, opened};
 use awk_types::{NoMemory, is_optional};
 use std::alloc::Global;
@@ -37,6 +41,27 @@ pub(crate) fn has_options(lists: &Lists) -> bool
     ensures { result ≡ is_option (array_type lists.now.content) }
 {
     is_optional(lists.content().typ())
+}
+
+/// The numbers that the index of an option names. One of 32 bits is read where it lies.
+fn indexed_numbers<'a, L: Ledger>(
+    alloc: Global,
+    index: &Lane<'a>,
+    lane: &Lane,
+    arena: &'a Arena,
+    steps: &mut Steps<L>,
+) -> Result<Array<'a>, NoMemory>
+    requires index { IsOptionalIndex index.now (size_of lane.now) }
+    requires small { size_of index.now < 2 ^ 63 }
+    ensures { let places = first_of (present_at index.now) (size_of index.now) in
+        IfOk result (λ r. r ≡ flat (numbers_at lane.now places)) }
+{
+    if index.kind() == Kind::I32 {
+        let index = narrow_index(index, steps);
+        return named_numbers(alloc, &index, lane, arena, steps);
+    }
+    let index = index_of(alloc, index, arena, steps)?;
+    named_numbers(alloc, &index, lane, arena, steps)
 }
 
 /// The items of an option that are not null, by its index in order.
@@ -70,8 +95,7 @@ fn moved_items<'a, L: Ledger>(
 {
     match content.node().class() {
         Class::Numpy { lane } => {
-            let places = index_of(alloc, index, arena, steps)?;
-            let numbers = named_numbers(alloc, &places, lane, arena, steps)?;
+            let numbers = indexed_numbers(alloc, index, lane, arena, steps)?;
             let _ = numbers.len();
             Ok(OptionItems {
                 index: index.copy(),

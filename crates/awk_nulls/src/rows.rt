@@ -12,12 +12,13 @@ ghost use Rattle.awk_nulls.specs.Lanes.{AreRowOffsets, HasPresent};
 
 use crate::ends::count_between;
 use awk_columns::{Bounds, Lists};
-use awk_index::{Index, index_of};
-use awk_lanes::{Arena, IndexMaker, Lane, Offsets, Steps, number};
+use awk_index::index_of;
+use awk_lanes::{Arena, IndexMaker, Kind, Lane, Offsets, Steps, number};
 use awk_layout::{Array, Class};
 use awk_list_ends::span_or;
 use awk_list_functions::{Made, Spoil};
 use awk_list_numbers::all_named;
+use awk_narrow::{OptionIndex, narrow_index};
 use awk_open::{Opened, opened};
 use awk_types::{ITEM_LIMIT, NoMemory};
 use std::alloc::Global;
@@ -25,15 +26,15 @@ use std::sync::ledger::Ledger;
 
 /// The offsets of lists among the items that are present, in one pass over these: none where a list
 /// begins elsewhere than where the one before it ends, or an item stands behind the last.
-fn row_offsets<'a>(
-    index: &Index,
+fn row_offsets<'a, P: OptionIndex>(
+    index: &P,
     lists: &Bounds,
     arena: &'a Arena,
 ) -> Result<Option<Offsets<'a>>, NoMemory>
-    requires size { size_of index.now ≡ len lists.now.content }
-    requires small { size_of index.now < 2 ^ 63 }
+    requires size { size_of (P.lane index.now) ≡ len lists.now.content }
+    requires small { size_of (P.lane index.now) < 2 ^ 63 }
     ensures { IfOk result (λ r. IfSome r
-        (AreRowOffsets index.now lists.now.starts lists.now.stops)) }
+        (AreRowOffsets (P.lane index.now) lists.now.starts lists.now.stops)) }
 {
     let _ = lists.content();
     let n = lists.len();
@@ -51,7 +52,7 @@ fn row_offsets<'a>(
         place = end;
         maker.push(number(count));
     }
-    let size = index.len();
+    let size = index.size();
     if place < size {
         return Ok(None);
     }
@@ -94,7 +95,40 @@ pub(crate) fn filled_rows<'a, L: Ledger>(
 }
 
 /// The same of an option over numbers, which are moved at once.
-fn number_rows<'a, L: Ledger>(
+fn number_rows<'a, P: OptionIndex, L: Ledger>(
+    alloc: Global,
+    lists: &Lists<'a>,
+    index: &P,
+    numbers: &Lane<'a>,
+    arena: &'a Arena,
+    steps: &mut Steps<L>,
+) -> Result<Option<Made<'a>>, NoMemory>
+    requires opened { let named = Opened.Option (P.lane index.now) (flat numbers.now) in
+        IsOpened lists.now.content named }
+    ensures { IfOk result (λ r. IfSome r (IsMade drop_none_function lists.now.class
+        lists.now.starts lists.now.stops lists.now.content)) }
+{
+    let _ = lists.content();
+    let bounds = Bounds::new(alloc, lists, arena, steps)?;
+    match row_offsets(index, &bounds, arena)? {
+        Some(offsets) => {
+            let total = offsets.total;
+            if total > ITEM_LIMIT {
+                return Ok(Some(Made::Spoiled(Spoil::Size)));
+            }
+            let items = all_named(alloc, index, total, numbers, arena, steps)?;
+            let _ = items.len();
+            Ok(Some(Made::Lists {
+                offsets: offsets.lane,
+                content: items.node().copy(alloc)?,
+            }))
+        }
+        None => Ok(None),
+    }
+}
+
+/// The same by a lane of an index. One of 32 bits is read where it lies.
+fn indexed_rows<'a, L: Ledger>(
     alloc: Global,
     lists: &Lists<'a>,
     index: &Lane<'a>,
@@ -106,24 +140,12 @@ fn number_rows<'a, L: Ledger>(
     ensures { IfOk result (λ r. IfSome r (IsMade drop_none_function lists.now.class
         lists.now.starts lists.now.stops lists.now.content)) }
 {
-    let _ = lists.content();
-    let bounds = Bounds::new(alloc, lists, arena, steps)?;
-    let places = index_of(alloc, index, arena, steps)?;
-    match row_offsets(&places, &bounds, arena)? {
-        Some(offsets) => {
-            let total = offsets.total;
-            if total > ITEM_LIMIT {
-                return Ok(Some(Made::Spoiled(Spoil::Size)));
-            }
-            let items = all_named(alloc, &places, total, numbers, arena, steps)?;
-            let _ = items.len();
-            Ok(Some(Made::Lists {
-                offsets: offsets.lane,
-                content: items.node().copy(alloc)?,
-            }))
-        }
-        None => Ok(None),
+    if index.kind() == Kind::I32 {
+        let index = narrow_index(index, steps);
+        return number_rows(alloc, lists, &index, numbers, arena, steps);
     }
+    let index = index_of(alloc, index, arena, steps)?;
+    number_rows(alloc, lists, &index, numbers, arena, steps)
 }
 
 /// The same of what an option opens to: nothing where it holds no numbers.
@@ -140,7 +162,7 @@ fn rows_over<'a, L: Ledger>(
         lists.now.starts lists.now.stops lists.now.content)) }
 {
     match content.node().class() {
-        Class::Numpy { lane } => number_rows(alloc, lists, index, lane, arena, steps),
+        Class::Numpy { lane } => indexed_rows(alloc, lists, index, lane, arena, steps),
         _ => Ok(None),
     }
 }
