@@ -75,6 +75,15 @@ module _ (f : ℕ → Option ℕ) where
           let some : nat_lt 0 (suc (length zs)) ≡ true = grind arith in
           subst (λ b. IsFilled b (z ∷ zs)) (sym some) (λ e. cc)
 
+  -- no numbers, if none is there
+  pub none_present : (c : Column) (a n : ℕ) → present_count f a n ≡ 0
+      → numbers_from (leaf_number f c) a n ≡ []
+  none_present c a n e = empty (numbers_from (leaf_number f c) a n) (sym (present-numbers c a n) ∙ e)
+    where
+      empty : (zs : List ℤ) → length zs ≡ 0 → zs ≡ []
+      empty [] h = refl
+      empty (z ∷ zs) h = absurd (omega (arith, h))
+
   -- there is one, if item i is there
   pub present_some : (a n i : ℕ) → i < n → is_some (f (a + i)) ≡ true
       → nat_lt 0 (present_count f a n) ≡ true

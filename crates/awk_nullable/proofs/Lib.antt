@@ -6,3 +6,4 @@ mod HalvesLaws
 mod TruthLaws
 mod KeyLaws
 mod KeyedLaws
+mod PlacedLaws

@@ -1,6 +1,6 @@
 -- The extreme of numbers, and its first item.
 use Rattle.std.specs.Prelude.{◌≡◌, ℕ, ◌<◌, ℤ, ◌+ℤ◌, Bool, true, false, ◌||◌, List, [], position}
-use Rattle.std.specs.Prelude.{Option, Some, None, if◌then◌else◌, FitsSigned}
+use Rattle.std.specs.Prelude.{Option, Some, None, if◌then◌else◌, cond, FitsSigned, ◌⊎◌}
 use Rattle.std.specs.Int.{w64}
 use Rattle.std.specs.List.{range_with_len}
 use Rattle.std.specs.Option.{is_some, option_and_then, option_map, unwrap_or}
@@ -10,6 +10,7 @@ use Rattle.awk_lanes.specs.Places.{size_of, at}
 use Rattle.awk_numbers.specs.Folds.{beats, extreme_of}
 use Rattle.awk_numbers.specs.declared.extremes.Extreme.{Extreme}
 use Rattle.awk_nullable.specs.Numbers.{numbers_from}
+use Rattle.awk_nullable.specs.declared.extremes.Placed.{Placed}
 use Rattle.awk_nullable.specs.declared.keys.Found.{Found}
 
 -- whether an item has a number
@@ -74,3 +75,24 @@ IsFoundKey how c shift worst zs key false = (zs ≡ []) × (key ≡ worst)
 
 abbrev pub IsFound : Extreme → Column → ℤ → ℤ → List ℤ → Found → Type 0
 IsFound how c shift worst zs b = IsFoundKey how c shift worst zs b.key b.some
+
+-- ---- with the first item of the best key
+
+-- what is found after item i
+abbrev pub next_placed : Extreme → ℤ → ℕ → Placed → Option ℤ → Placed
+next_placed how worst i old next = record {
+  found = next_found how worst old.found next;
+  place = cond (beats how (unwrap_or next worst) old.found.key) i old.place;
+}
+
+-- no item so far has a better key, and the place is the first item of the best one, or the count of
+-- all items where that is the worst key
+pub record IsPlacedKey (how : Extreme) (worst : ℤ) (count : ℕ) (g : ℕ → Option ℤ) (first i : ℕ)
+    (key : ℤ) (place : ℕ) : Type 0 where
+  pub before : (z : ℤ) → beats how z key ≡ true → number_place g first i z ≡ None
+  pub here : ((place ≡ count) × (key ≡ worst))
+      ⊎ ((place < i) × (number_place g first i key ≡ Some place))
+
+abbrev pub IsPlaced : Extreme → ℤ → ℕ → (ℕ → Option ℤ) → ℕ → ℕ → Placed → Type 0
+IsPlaced how worst count g first i b =
+    IsPlacedKey how worst count g first i b.found.key b.place

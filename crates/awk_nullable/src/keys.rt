@@ -8,7 +8,7 @@ ghost use Rattle.awk_nullable.specs.Numbers.{leaf_number, numbers_from};
 ghost use Rattle.awk_nullable.specs.Numbers.{AreItems, AreLeading, AreAhead};
 
 use crate::cells::Cells;
-use crate::numbers::Leaves;
+use crate::numbers::{Leaves, is_ahead};
 use crate::places::Places;
 use awk_lanes::Steps;
 use awk_numbers::{Extreme, Greater, Lesser, Side};
@@ -95,7 +95,7 @@ fn better<S: Side>(old: i64, next: i64) -> i64
 /// What is found after one item more. A null counts as a key that beats none, so that there is no
 /// branch at an item.
 #[inline(always)]
-fn after<S: Side>(old: Found, worst: i64, next: Option<i64>) -> Found
+pub(crate) fn after<S: Side>(old: Found, worst: i64, next: Option<i64>) -> Found
     ensures { result ≡ next_found S.how worst old next }
 {
     Found {
@@ -156,7 +156,7 @@ fn key_among<S: Side, P: Places, C: Cells, L: Ledger>(
         (numbers_from (leaf_number (P.at x.now.places.now) (C.lane x.now.cells.now)) first count)
         result }
 {
-    if x.places.reaches(x.cells, first, count) {
+    if is_ahead(x, first, count) {
         return key_in(found_by::<S, P, C, L>(true, worst, x, first, count, steps));
     }
     key_in(found_by::<S, P, C, L>(false, worst, x, first, count, steps))
@@ -165,7 +165,7 @@ fn key_among<S: Side, P: Places, C: Cells, L: Ledger>(
 /// A key that beats none. It is made of the count, of which nothing is left: where the compiler
 /// knows the key, it makes a branch at each null of it.
 #[inline(always)]
-fn worst_key(how: Extreme, count: u64) -> i64
+pub(crate) fn worst_key(how: Extreme, count: u64) -> i64
     requires few { count ≤ 1073741824 }
     ensures { IsWorst how result }
 {
@@ -178,7 +178,7 @@ fn worst_key(how: Extreme, count: u64) -> i64
 
 /// The key of the extreme of the items, or none where all are null.
 #[inline(always)]
-pub(crate) fn key_of<P: Places, C: Cells, L: Ledger>(
+fn key_of<P: Places, C: Cells, L: Ledger>(
     how: Extreme,
     x: &Leaves<'_, P, C>,
     first: u64,

@@ -14,6 +14,43 @@ use std::sync::ledger::Ledger;
 pub struct Leaves<'c, P: Places, C: Cells> {
     pub places: &'c P,
     pub cells: &'c C,
+    /// Whether most items are null, as it is told.
+    pub sparse: bool,
+}
+
+/// Whether the number of each item is read before it is asked whether that is null: where each has
+/// a place, and a processor would not foresee that most are null.
+#[inline(always)]
+pub(crate) fn is_ahead<P: Places, C: Cells>(x: &Leaves<'_, P, C>, first: u64, count: u64) -> bool
+    requires { AreItems (P.at x.now.places.now) (P.size x.now.places.now) (C.lane x.now.cells.now)
+        first count }
+    ensures { result ≡ true → AreAhead (P.ahead x.now.places.now) first count
+        (size_of (C.lane x.now.cells.now)) }
+{
+    if x.sparse {
+        return false;
+    }
+    x.places.reaches(x.cells, first, count)
+}
+
+/// Whether so many items are all null, where most are: they are counted at once. Where not most
+/// are, it is not asked.
+#[inline(always)]
+pub(crate) fn is_void<P: Places, C: Cells, L: Ledger>(
+    x: &Leaves<'_, P, C>,
+    first: u64,
+    count: u64,
+    steps: &mut Steps<L>,
+) -> bool
+    requires items { AreItems (P.at x.now.places.now) (P.size x.now.places.now)
+        (C.lane x.now.cells.now) first count }
+    ensures { result ≡ true → numbers_from (leaf_number (P.at x.now.places.now)
+        (C.lane x.now.cells.now)) first count ≡ [] }
+{
+    if !x.sparse {
+        return false;
+    }
+    x.places.present(first, count, steps) == 0
 }
 
 /// The number of item i, if that is not null.
@@ -131,7 +168,7 @@ pub(crate) fn total_of<T: Total, P: Places, C: Cells, L: Ledger>(
     ensures { T.IsOf result (numbers_from (leaf_number (P.at x.now.places.now)
         (C.lane x.now.cells.now)) first count) }
 {
-    if x.places.reaches(x.cells, first, count) {
+    if is_ahead(x, first, count) {
         return total_by(true, none, x, first, count, steps);
     }
     total_by(false, none, x, first, count, steps)
@@ -165,5 +202,8 @@ pub fn is_some_there<P: Places, C: Cells, L: Ledger>(
     ensures { IsFilled result (numbers_from (leaf_number (P.at x.now.places.now)
         (C.lane x.now.cells.now)) first count) }
 {
+    if x.sparse {
+        return x.places.present(first, count, steps) > 0;
+    }
     x.places.shows_some(first, count, steps)
 }

@@ -14,7 +14,7 @@ use awk_bits::Bits;
 use awk_cells::count_set;
 use awk_index::Index;
 use awk_lanes::Steps;
-use awk_narrow::NarrowIndex;
+use awk_narrow::{NarrowIndex, OptionIndex};
 use std::sync::ledger::Ledger;
 
 /// Where the numbers of items lie.
@@ -30,6 +30,11 @@ pub trait Places {
 
     /// How many items there are.
     ghost size: { Self → ℕ };
+
+    /// Whether most items are null, as some of them tell. Where none tells, it is not said.
+    fn is_sparse(&self) -> bool {
+        false
+    }
 
     /// The place of the number of item i.
     fn place<L: Ledger>(&self, i: u64, steps: &mut Steps<L>) -> Option<u64>
@@ -114,6 +119,25 @@ fn shown(shows: bool, i: u64) -> Option<u64>
     if shows { Some(i) } else { None }
 }
 
+/// How many of 64 items of an index are not null: of the first 64,000 each thousandth.
+fn present_of_64<I: OptionIndex>(index: &I) -> u64
+    requires { 64000 ≤ size_of (I.lane index.now) }
+{
+    let mut present: u64 = 0;
+    for i in 0..64u64 {
+        present += one_if_there(index.place(i * 1000));
+    }
+    present
+}
+
+/// Whether most items of an index are null, as 64 of them tell.
+fn is_sparse_index<I: OptionIndex>(index: &I) -> bool {
+    if index.size() < 64000 {
+        return false;
+    }
+    present_of_64(index) < 4
+}
+
 /// By the numbers of an index, negative for a null. For a null any place will do.
 impl<'a> Places for Index<'a> {
     ghost use Rattle.std.specs.Option.{unwrap_or};
@@ -124,6 +148,10 @@ impl<'a> Places for Index<'a> {
     ghost ahead = { λ x i. unwrap_or (option_place_at x i) 0 };
 
     ghost size = { λ x. size_of x };
+
+    fn is_sparse(&self) -> bool {
+        is_sparse_index(self)
+    }
 
     #[inline(always)]
     fn place<L: Ledger>(&self, i: u64, _steps: &mut Steps<L>) -> Option<u64> {
@@ -156,6 +184,10 @@ impl<'a> Places for NarrowIndex<'a> {
     ghost ahead = { λ x i. unwrap_or (option_place_at x i) 0 };
 
     ghost size = { λ x. size_of x };
+
+    fn is_sparse(&self) -> bool {
+        is_sparse_index(self)
+    }
 
     #[inline(always)]
     fn place<L: Ledger>(&self, i: u64, _steps: &mut Steps<L>) -> Option<u64> {

@@ -9,7 +9,7 @@ ghost use Rattle.awk_nullable.specs.Numbers.{AreItems, AreLeading, AreAhead};
 
 use crate::cells::Cells;
 use crate::halves::{Halves, whole_of};
-use crate::numbers::Leaves;
+use crate::numbers::{Leaves, is_ahead, is_void};
 use crate::places::Places;
 use awk_lanes::Steps;
 use std::sync::ledger::Ledger;
@@ -125,7 +125,10 @@ pub fn sum_of<P: Places, C: Cells, L: Ledger>(
     ensures { result ≡ total (numbers_from (leaf_number (P.at x.now.places.now)
         (C.lane x.now.cells.now)) first count) }
 {
-    if x.places.reaches(x.cells, first, count) {
+    if is_void(x, first, count, steps) {
+        return 0;
+    }
+    if is_ahead(x, first, count) {
         return whole_of(sum_by(true, x, first, count, steps));
     }
     whole_of(sum_by(false, x, first, count, steps))

@@ -1,2 +1,3 @@
 mod NullableLaws
 mod ElementLaws
+mod MaskLaws

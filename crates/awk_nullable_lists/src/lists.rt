@@ -12,7 +12,7 @@ ghost use Rattle.awk_nullable_lists.specs.Lists.{AreNullable};
 ghost use Rattle.awk_nullable.specs.Numbers.{leaf_number, AreItems};
 
 use awk_columns::{Bounds, Span};
-use awk_lanes::{Arena, Kind, Lane, NoMemory, Num, Numbers, Steps, made_lane, number};
+use awk_lanes::{Arena, Kind, Lane, NoMemory, Num, Numbers, Steps, is_set, made_lane, number};
 use awk_nullable::{
     Cells, Leaves, Places, count_of, extreme_number, is_some_there, place_of, product_of, sum_of,
     tally_of,
@@ -131,18 +131,22 @@ pub fn tally_lists<'b, P: Places, C: Cells, L: Ledger>(
     }
 }
 
-/// The extreme of each list, and 0 where all its items are null.
+/// The extreme of each list, and 0 where all its items are null, as a mask tells: of such a list no
+/// item is read.
 #[derive(Drop)]
 struct ListExtremes<'x, 'c, 'r, 'a, 'l, P: Places, C: Cells> {
     how: Extreme,
     lane: &'x Lane<'l>,
+    mask: &'x Lane<'l>,
     lists: &'x LeafLists<'c, 'r, 'a, P, C>,
 }
 
 impl<'x, 'c, 'r, 'a, 'l, P: Places, C: Cells> Numbers for ListExtremes<'x, 'c, 'r, 'a, 'l, P, C> {
     ghost use Rattle.std.specs.Prelude.{◌≡◌};
+    ghost use Rattle.awk_lanes.specs.Made.{lane_of};
     ghost use Rattle.awk_lanes.specs.Places.{size_of};
-    ghost use Rattle.awk_nullable_lists.specs.Lists.{extreme_at, AreNullable};
+    ghost use Rattle.awk_lanes.specs.declared.kind.Kind.TheVariants as Kind;
+    ghost use Rattle.awk_nullable_lists.specs.Lists.{extreme_at, present_at, AreNullable};
     ghost use Rattle.awk_nullable.specs.Numbers.{leaf_number};
 
     ghost kind = { λ f. f.lane.now.kind };
@@ -154,11 +158,17 @@ impl<'x, 'c, 'r, 'a, 'l, P: Places, C: Cells> Numbers for ListExtremes<'x, 'c, '
     ghost size = { λ f. size_of f.lists.now.bounds.now.starts };
 
     ghost IsReady = { λ f. (f.lane.now ≡ C.lane f.lists.now.leaves.now.cells.now)
+        × (f.mask.now ≡ lane_of Kind.I8 (size_of f.lists.now.bounds.now.starts)
+        (present_at f.lists.now.bounds.now (leaf_number (P.at f.lists.now.leaves.now.places.now)
+        (C.lane f.lists.now.leaves.now.cells.now))))
         × AreNullable f.lists.now.bounds.now (P.at f.lists.now.leaves.now.places.now)
         (P.size f.lists.now.leaves.now.places.now) (C.lane f.lists.now.leaves.now.cells.now) };
 
     fn number<L: Ledger>(&self, i: u64, steps: &mut Steps<L>) -> Num {
         let _ = self.lane.len();
+        if !is_set(self.mask, i, steps) {
+            return zero_of(self.lane.kind());
+        }
         let span = span_of(self.lists, i);
         let leaves = self.lists.leaves;
         match extreme_number(self.how, leaves, span.start, span.length, steps) {
@@ -168,36 +178,50 @@ impl<'x, 'c, 'r, 'a, 'l, P: Places, C: Cells> Numbers for ListExtremes<'x, 'c, '
     }
 }
 
-/// The least or the greatest item of each list, and 0 where all its items are null.
+/// The least or the greatest item of each list, and 0 where all its items are null. The mask is that
+/// of `present_lists`.
 pub fn extreme_lists<'b, P: Places, C: Cells, L: Ledger>(
     how: Extreme,
     lane: &Lane,
+    mask: &Lane,
     lists: &LeafLists<'_, '_, '_, P, C>,
     arena: &'b Arena,
     steps: &mut Steps<L>,
 ) -> Result<Lane<'b>, NoMemory>
     requires lane { lane.now ≡ C.lane lists.now.leaves.now.cells.now }
+    requires mask { mask.now ≡ lane_of Kind.I8 (size_of lists.now.bounds.now.starts)
+        (present_at lists.now.bounds.now (leaf_number (P.at lists.now.leaves.now.places.now)
+        (C.lane lists.now.leaves.now.cells.now))) }
     requires ready { AreNullable lists.now.bounds.now (P.at lists.now.leaves.now.places.now)
         (P.size lists.now.leaves.now.places.now) (C.lane lists.now.leaves.now.cells.now) }
     ensures { IfOk result (λ r. r ≡ lane_of lane.now.kind (size_of lists.now.bounds.now.starts)
         (extreme_at how lists.now.bounds.now (leaf_number (P.at lists.now.leaves.now.places.now)
         (C.lane lists.now.leaves.now.cells.now)))) }
 {
-    let source = ListExtremes { how, lane, lists };
+    let source = ListExtremes {
+        how,
+        lane,
+        mask,
+        lists,
+    };
     made_lane(lane.kind(), lists.bounds.len(), &source, arena, steps)
 }
 
-/// Where in each list its extreme stands, and 0 where all its items are null.
+/// Where in each list its extreme stands, and 0 where all its items are null, as a mask tells: of
+/// such a list no item is read.
 #[derive(Drop)]
-struct ListPlaces<'x, 'c, 'r, 'a, P: Places, C: Cells> {
+struct ListPlaces<'x, 'c, 'r, 'a, 'l, P: Places, C: Cells> {
     how: Extreme,
+    mask: &'x Lane<'l>,
     lists: &'x LeafLists<'c, 'r, 'a, P, C>,
 }
 
-impl<'x, 'c, 'r, 'a, P: Places, C: Cells> Numbers for ListPlaces<'x, 'c, 'r, 'a, P, C> {
-    ghost use Rattle.awk_lanes.specs.declared.kind.Kind.TheVariants as Kind;
+impl<'x, 'c, 'r, 'a, 'l, P: Places, C: Cells> Numbers for ListPlaces<'x, 'c, 'r, 'a, 'l, P, C> {
+    ghost use Rattle.std.specs.Prelude.{◌≡◌};
+    ghost use Rattle.awk_lanes.specs.Made.{lane_of};
     ghost use Rattle.awk_lanes.specs.Places.{size_of};
-    ghost use Rattle.awk_nullable_lists.specs.Lists.{local_at, AreNullable};
+    ghost use Rattle.awk_lanes.specs.declared.kind.Kind.TheVariants as Kind;
+    ghost use Rattle.awk_nullable_lists.specs.Lists.{local_at, present_at, AreNullable};
     ghost use Rattle.awk_nullable.specs.Numbers.{leaf_number};
 
     ghost kind = { λ _. Kind.I64 };
@@ -208,11 +232,16 @@ impl<'x, 'c, 'r, 'a, P: Places, C: Cells> Numbers for ListPlaces<'x, 'c, 'r, 'a,
 
     ghost size = { λ f. size_of f.lists.now.bounds.now.starts };
 
-    ghost IsReady = { λ f. AreNullable f.lists.now.bounds.now
-        (P.at f.lists.now.leaves.now.places.now) (P.size f.lists.now.leaves.now.places.now)
-        (C.lane f.lists.now.leaves.now.cells.now) };
+    ghost IsReady = { λ f. (f.mask.now ≡ lane_of Kind.I8 (size_of f.lists.now.bounds.now.starts)
+        (present_at f.lists.now.bounds.now (leaf_number (P.at f.lists.now.leaves.now.places.now)
+        (C.lane f.lists.now.leaves.now.cells.now))))
+        × AreNullable f.lists.now.bounds.now (P.at f.lists.now.leaves.now.places.now)
+        (P.size f.lists.now.leaves.now.places.now) (C.lane f.lists.now.leaves.now.cells.now) };
 
     fn number<L: Ledger>(&self, i: u64, steps: &mut Steps<L>) -> Num {
+        if !is_set(self.mask, i, steps) {
+            return Num::Int(0);
+        }
         let span = span_of(self.lists, i);
         let leaves = self.lists.leaves;
         number_of_place(place_of(self.how, leaves, span.start, span.length, steps))
@@ -220,20 +249,24 @@ impl<'x, 'c, 'r, 'a, P: Places, C: Cells> Numbers for ListPlaces<'x, 'c, 'r, 'a,
 }
 
 /// Where in each list its least or greatest item stands first, nulls counted, and 0 where all its
-/// items are null.
+/// items are null. The mask is that of `present_lists`.
 pub fn place_lists<'b, P: Places, C: Cells, L: Ledger>(
     how: Extreme,
+    mask: &Lane,
     lists: &LeafLists<'_, '_, '_, P, C>,
     arena: &'b Arena,
     steps: &mut Steps<L>,
 ) -> Result<Lane<'b>, NoMemory>
+    requires mask { mask.now ≡ lane_of Kind.I8 (size_of lists.now.bounds.now.starts)
+        (present_at lists.now.bounds.now (leaf_number (P.at lists.now.leaves.now.places.now)
+        (C.lane lists.now.leaves.now.cells.now))) }
     requires ready { AreNullable lists.now.bounds.now (P.at lists.now.leaves.now.places.now)
         (P.size lists.now.leaves.now.places.now) (C.lane lists.now.leaves.now.cells.now) }
     ensures { IfOk result (λ r. r ≡ lane_of Kind.I64 (size_of lists.now.bounds.now.starts)
         (local_at how lists.now.bounds.now (leaf_number (P.at lists.now.leaves.now.places.now)
         (C.lane lists.now.leaves.now.cells.now)))) }
 {
-    let source = ListPlaces { how, lists };
+    let source = ListPlaces { how, mask, lists };
     made_lane(Kind::I64, lists.bounds.len(), &source, arena, steps)
 }
 

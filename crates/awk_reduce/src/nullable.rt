@@ -84,8 +84,8 @@ fn null_extremes<'a, P: Places, C: Cells, L: Ledger>(
         IfOk result (IsReduced (item_reducer how) (array_type l.content) (list_in l)
         (size_of l.starts)) }
 {
-    let items = extreme_lists(how, lane, lists, arena, steps)?;
     let mask = present_lists(lists, arena, steps)?;
+    let items = extreme_lists(how, lane, &mask, lists, arena, steps)?;
     Ok(Made::Singles(masked(alloc, mask, items, steps)?))
 }
 
@@ -103,8 +103,8 @@ fn null_places<'a, P: Places, C: Cells, L: Ledger>(
         IfOk result (IsReduced (place_reducer how) (array_type l.content) (list_in l)
         (size_of l.starts)) }
 {
-    let places = place_lists(how, lists, arena, steps)?;
     let mask = present_lists(lists, arena, steps)?;
+    let places = place_lists(how, &mask, lists, arena, steps)?;
     Ok(Made::Singles(masked(alloc, mask, places, steps)?))
 }
 
@@ -182,6 +182,7 @@ fn reduced_cells<'a, const W: usize, C: Cell<W>, P: Places, L: Ledger>(
     let leaves = Leaves {
         places,
         cells: &cells,
+        sparse: places.is_sparse(),
     };
     reduced_by(alloc, how, bounds, lane, &leaves, arena, steps)
 }
@@ -204,6 +205,7 @@ fn reduced_any<'a, P: Places, L: Ledger>(
     let leaves = Leaves {
         places,
         cells: lane,
+        sparse: places.is_sparse(),
     };
     reduced_by(alloc, how, bounds, lane, &leaves, arena, steps)
 }
@@ -228,6 +230,7 @@ fn reduced_wide<'a, P: Places, L: Ledger>(
     let leaves = Leaves {
         places,
         cells: &cells,
+        sparse: places.is_sparse(),
     };
     reduced_by(alloc, how, bounds, lane, &leaves, arena, steps)
 }

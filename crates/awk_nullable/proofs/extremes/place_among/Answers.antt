@@ -4,8 +4,8 @@ use Rattle.std.proofs.lemmas.Int.{to_z-of_z}
 use Rattle.awk_nullable.specs.Extremes.{leaf_key, number_place}
 use Rattle.awk_nullable.proofs.extremes.place_among.Goals as goal
 
-pub returns-then-reaches-clause-place : goal.returns-then-reaches-clause-place
-returns-then-reaches-clause-place g c =
+pub returns-then-is_ahead-clause-place : goal.returns-then-is_ahead-clause-place
+returns-then-is_ahead-clause-place g c =
     let lane = g.C.Cells.lane c.args.x.now.cells.now in
     let s = g.C.Cells.shift c.args.x.now.cells.now in
     let f = leaf_key (g.P.Places.at c.args.x.now.places.now) lane s in

@@ -4,6 +4,16 @@ use Rattle.awk_nullable.specs.Numbers.{leaf_number, numbers_from, present_count,
 use Rattle.awk_nullable.proofs.CountLaws.{present_filled}
 use Rattle.awk_nullable.proofs.numbers.is_some_there.Goals as goal
 
+pub returns-then-x : goal.returns-then-x
+returns-then-x g c =
+    let lane = g.C.Cells.lane c.args.x.now.cells.now in
+    let f = g.P.Places.at c.args.x.now.places.now in
+    let first = c.args.first in
+    let count = c.args.count in
+    subst (λ n. IsFilled (nat_lt 0 n) (numbers_from (leaf_number f lane) first count))
+    {x = present_count f first count} (sym c.present.ensures)
+    (present_filled f lane first count)
+
 pub returns : goal.returns
 returns g c =
     let lane = g.C.Cells.lane c.args.x.now.cells.now in

@@ -9,14 +9,14 @@ use Rattle.awk_reduce.proofs.OptionLaws.{leaves_nullable, leaves_numbered, local
 use Rattle.awk_reduce.proofs.PlaceLaws.{places_made}
 use Rattle.awk_reduce.proofs.nullable.null_places.Goals as goal
 
-pub place_lists-requires : goal.place_lists-requires
-place_lists-requires g c =
+pub place_lists-requires-clause-ready : goal.place_lists-requires-clause-ready
+place_lists-requires-clause-ready g c =
     let x = c.args.lists.now in
     let l = x.bounds.now in
     let f = g.P.Places.at x.leaves.now.places.now in
     let m = g.P.Places.size x.leaves.now.places.now in
     let lane = g.C.Cells.lane x.leaves.now.cells.now in
-    record { ready = leaves_nullable l f m lane c.requires }
+    leaves_nullable l f m lane c.requires
 
 pub present_lists-requires : goal.present_lists-requires
 present_lists-requires g c =
