@@ -78,7 +78,8 @@ module _ (f : ℕ → Option ℕ) where
   -- no numbers, if none is there
   pub none_present : (c : Column) (a n : ℕ) → present_count f a n ≡ 0
       → numbers_from (leaf_number f c) a n ≡ []
-  none_present c a n e = empty (numbers_from (leaf_number f c) a n) (sym (present-numbers c a n) ∙ e)
+  none_present c a n e =
+      empty (numbers_from (leaf_number f c) a n) (sym (present-numbers c a n) ∙ e)
     where
       empty : (zs : List ℤ) → length zs ≡ 0 → zs ≡ []
       empty [] h = refl

@@ -1,7 +1,7 @@
 -- The first item of the best key, one item more.
-use Rattle.std.proofs.Common.{◌≡◌, ℕ, ◌+◌, ◌<◌, List, [], refl, ap, ap₂, sym, ◌∙◌, subst, arith}
+use Rattle.std.proofs.Common.{◌≡◌, ℕ, ◌+◌, ◌<◌, List, refl, ap, ap₂, sym, ◌∙◌, subst, arith}
 use Rattle.std.proofs.Common.{◌⊎◌, inl, inr}
-use Rattle.std.specs.Prelude.{ℤ, ◌+ℤ◌, Bool, true, false, cond, Option, Some, None, FitsSigned}
+use Rattle.std.specs.Prelude.{ℤ, Bool, true, false, cond, Option, Some, None, FitsSigned}
 use Rattle.std.specs.Prelude.{not, if◌then◌else◌}
 use Rattle.std.specs.Int.{w64}
 use Rattle.std.specs.Option.{option_and_then, unwrap_or}
@@ -76,7 +76,8 @@ module _ (how : Extreme) (worst : ℤ) (count : ℕ) (g : ℕ → Option ℤ) (f
     new_more t = record {
       before = λ z s.
           more (Some y) e z
-          ∙ ap₂ earlier (h.before z (beats_on how z y key s t)) (ap (item_if i) (differs how z y s));
+          ∙ ap₂ earlier (h.before z (beats_on how z y key s t))
+          (ap (item_if i) (differs how z y s));
       here = inr (
         omega arith,
         more (Some y) e y ∙ ap₂ earlier (h.before y t) (ap (item_if i) (int_eq-refl y)),

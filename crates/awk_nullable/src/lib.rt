@@ -8,9 +8,9 @@
 //! them, and `place_of` where among the items it stands first. No lane of their numbers is made.
 //! The bytes of a mask are counted in blocks, and items that are all there not at all.
 //! Where even a null has a place that holds a number, that is read before the item is asked whether
-//! it is null (`Places::ahead`), and no branch is taken there. Where most items of an index are null,
-//! as some of them tell (`Places::is_sparse`), it is not: a processor foresees that branch, and a
-//! list of nulls is told by a count.
+//! it is null (`Places::ahead`), and no branch is taken there. Where most items of an index are
+//! null, as some of them tell (`Places::is_sparse`), it is not: a processor foresees that branch,
+//! and a list of nulls is told by a count.
 #![tactic(auto)]
 
 mod cells;

@@ -131,8 +131,8 @@ pub fn tally_lists<'b, P: Places, C: Cells, L: Ledger>(
     }
 }
 
-/// The extreme of each list, and 0 where all its items are null, as a mask tells: of such a list no
-/// item is read.
+/// The extreme of each list, and 0 where all its items are null. Where most items are, a mask tells
+/// which lists these are, and no item is read of them.
 #[derive(Drop)]
 struct ListExtremes<'x, 'c, 'r, 'a, 'l, P: Places, C: Cells> {
     how: Extreme,
@@ -166,11 +166,13 @@ impl<'x, 'c, 'r, 'a, 'l, P: Places, C: Cells> Numbers for ListExtremes<'x, 'c, '
 
     fn number<L: Ledger>(&self, i: u64, steps: &mut Steps<L>) -> Num {
         let _ = self.lane.len();
-        if !is_set(self.mask, i, steps) {
-            return zero_of(self.lane.kind());
+        let leaves = self.lists.leaves;
+        if leaves.sparse {
+            if !is_set(self.mask, i, steps) {
+                return zero_of(self.lane.kind());
+            }
         }
         let span = span_of(self.lists, i);
-        let leaves = self.lists.leaves;
         match extreme_number(self.how, leaves, span.start, span.length, steps) {
             Some(z) => number_in(self.lane.kind(), z),
             None => zero_of(self.lane.kind()),
@@ -178,8 +180,8 @@ impl<'x, 'c, 'r, 'a, 'l, P: Places, C: Cells> Numbers for ListExtremes<'x, 'c, '
     }
 }
 
-/// The least or the greatest item of each list, and 0 where all its items are null. The mask is that
-/// of `present_lists`.
+/// The least or the greatest item of each list, and 0 where all its items are null. The mask is
+/// that of `present_lists`.
 pub fn extreme_lists<'b, P: Places, C: Cells, L: Ledger>(
     how: Extreme,
     lane: &Lane,
@@ -207,8 +209,8 @@ pub fn extreme_lists<'b, P: Places, C: Cells, L: Ledger>(
     made_lane(lane.kind(), lists.bounds.len(), &source, arena, steps)
 }
 
-/// Where in each list its extreme stands, and 0 where all its items are null, as a mask tells: of
-/// such a list no item is read.
+/// Where in each list its extreme stands, and 0 where all its items are null. Where most items are,
+/// a mask tells which lists these are, and no item is read of them.
 #[derive(Drop)]
 struct ListPlaces<'x, 'c, 'r, 'a, 'l, P: Places, C: Cells> {
     how: Extreme,
@@ -239,11 +241,13 @@ impl<'x, 'c, 'r, 'a, 'l, P: Places, C: Cells> Numbers for ListPlaces<'x, 'c, 'r,
         (P.size f.lists.now.leaves.now.places.now) (C.lane f.lists.now.leaves.now.cells.now) };
 
     fn number<L: Ledger>(&self, i: u64, steps: &mut Steps<L>) -> Num {
-        if !is_set(self.mask, i, steps) {
-            return Num::Int(0);
+        let leaves = self.lists.leaves;
+        if leaves.sparse {
+            if !is_set(self.mask, i, steps) {
+                return Num::Int(0);
+            }
         }
         let span = span_of(self.lists, i);
-        let leaves = self.lists.leaves;
         number_of_place(place_of(self.how, leaves, span.start, span.length, steps))
     }
 }

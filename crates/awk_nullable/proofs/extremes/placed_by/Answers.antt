@@ -39,8 +39,8 @@ loop-i-preserved g c =
     subst (IsWorst how) (sym (to_z-of_z w64 c.args.worst c.ranges.worst)) c.requires.worst in
     let same = sym (c.placed_after-placed.ensures ∙ ap (next_placed how worst i old) key.key) in
     let fits : FitsSigned w64 new.found.key = search rules in (
-      subst (λ (b : Placed). IsFound how lane s worst (numbers_from (leaf_number f lane) first (i + 1))
-          b.found) same
+      subst (λ (b : Placed). IsFound how lane s worst
+          (numbers_from (leaf_number f lane) first (i + 1)) b.found) same
           (found_more how f lane s worst first i old.found beaten c.loop-i.invariant.1
           c.loop-i.invariant.0
           (λ k e. c.requires.items.leads (first + i) k
