@@ -7,7 +7,7 @@ ghost use Rattle.awk_nullable.specs.Extremes.{IsFound, IsItem, IsPlaced, IsWorst
 ghost use Rattle.awk_nullable.specs.Numbers.{leaf_number, numbers_from, AreItems, AreAhead};
 
 use crate::cells::Cells;
-use crate::keys::{Found, after, key_by, worst_key};
+use crate::keys::{Found, after, key_by, key_of, worst_key};
 use crate::numbers::{Leaves, is_ahead};
 use crate::places::Places;
 use awk_lanes::Steps;
@@ -200,7 +200,51 @@ fn place_by_side<S: Side, P: Places, C: Cells, L: Ledger>(
     place_among(placed.found.key, x, first, count, steps)
 }
 
-/// Where in a span of items the extreme stands first, nulls counted.
+/// The place, looked for at once with the extreme itself.
+#[inline(always)]
+fn place_at_once<P: Places, C: Cells, L: Ledger>(
+    how: Extreme,
+    x: &Leaves<'_, P, C>,
+    first: u64,
+    count: u64,
+    steps: &mut Steps<L>,
+) -> Option<u64>
+    requires items { AreItems (P.at x.now.places.now) (P.size x.now.places.now)
+        (C.lane x.now.cells.now) first count }
+    ensures place { result ≡ extreme_place how (leaf_number (P.at x.now.places.now)
+        (C.lane x.now.cells.now)) first count }
+    ensures inside { IfSome result (λ k. k < count) }
+{
+    let worst = worst_key(how, count);
+    match how {
+        Extreme::Least => place_by_side::<Lesser, P, C, L>(worst, x, first, count, steps),
+        Extreme::Greatest => place_by_side::<Greater, P, C, L>(worst, x, first, count, steps),
+    }
+}
+
+/// The same, where the items are read twice, once for the extreme itself.
+#[inline(always)]
+fn place_twice<P: Places, C: Cells, L: Ledger>(
+    how: Extreme,
+    x: &Leaves<'_, P, C>,
+    first: u64,
+    count: u64,
+    steps: &mut Steps<L>,
+) -> Option<u64>
+    requires items { AreItems (P.at x.now.places.now) (P.size x.now.places.now)
+        (C.lane x.now.cells.now) first count }
+    ensures place { result ≡ extreme_place how (leaf_number (P.at x.now.places.now)
+        (C.lane x.now.cells.now)) first count }
+    ensures inside { IfSome result (λ k. k < count) }
+{
+    match key_of(how, x, first, count, steps) {
+        Some(key) => place_among(key, x, first, count, steps),
+        None => None,
+    }
+}
+
+/// Where in a span of items the extreme stands first, nulls counted. By an index the items are read
+/// once; by a mask, where they lie side by side, twice, each time without a branch at an item.
 pub fn place_of<P: Places, C: Cells, L: Ledger>(
     how: Extreme,
     x: &Leaves<'_, P, C>,
@@ -214,9 +258,8 @@ pub fn place_of<P: Places, C: Cells, L: Ledger>(
         (C.lane x.now.cells.now)) first count }
     ensures small { IfSome result (λ k. k < 2 ^ 63) }
 {
-    let worst = worst_key(how, count);
-    match how {
-        Extreme::Least => place_by_side::<Lesser, P, C, L>(worst, x, first, count, steps),
-        Extreme::Greatest => place_by_side::<Greater, P, C, L>(worst, x, first, count, steps),
+    if x.places.is_apart() {
+        return place_at_once(how, x, first, count, steps);
     }
+    place_twice(how, x, first, count, steps)
 }

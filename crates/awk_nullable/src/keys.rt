@@ -178,7 +178,7 @@ pub(crate) fn worst_key(how: Extreme, count: u64) -> i64
 
 /// The key of the extreme of the items, or none where all are null.
 #[inline(always)]
-fn key_of<P: Places, C: Cells, L: Ledger>(
+pub(crate) fn key_of<P: Places, C: Cells, L: Ledger>(
     how: Extreme,
     x: &Leaves<'_, P, C>,
     first: u64,

@@ -36,6 +36,11 @@ pub trait Places {
         false
     }
 
+    /// Whether numbers lie elsewhere than their items, so that each is better read once than twice.
+    fn is_apart(&self) -> bool {
+        false
+    }
+
     /// The place of the number of item i.
     fn place<L: Ledger>(&self, i: u64, steps: &mut Steps<L>) -> Option<u64>
         requires { i < size self.now }
@@ -154,6 +159,11 @@ impl<'a> Places for Index<'a> {
     }
 
     #[inline(always)]
+    fn is_apart(&self) -> bool {
+        true
+    }
+
+    #[inline(always)]
     fn place<L: Ledger>(&self, i: u64, _steps: &mut Steps<L>) -> Option<u64> {
         self.option_place(i)
     }
@@ -187,6 +197,11 @@ impl<'a> Places for NarrowIndex<'a> {
 
     fn is_sparse(&self) -> bool {
         is_sparse_index(self)
+    }
+
+    #[inline(always)]
+    fn is_apart(&self) -> bool {
+        true
     }
 
     #[inline(always)]
