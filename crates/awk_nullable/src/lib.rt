@@ -28,7 +28,7 @@ pub use extremes::place_of;
 pub use group_cells::{GroupCells, cells_of};
 pub use halves::Halves;
 pub use keys::extreme_number;
-pub use numbers::{Leaves, count_of, is_some_there};
+pub use numbers::{Leaves, count_of, is_some_there, is_sparse};
 pub use places::{BitMask, ByteMask, Every, Places};
 pub use sums::sum_of;
 pub use totals::{product_of, tally_of};

@@ -18,6 +18,16 @@ pub struct Leaves<'c, P: Places, C: Cells> {
     pub sparse: bool,
 }
 
+/// Whether most items are null, as it is told. Where numbers lie beside their items, it is never
+/// asked.
+#[inline(always)]
+pub fn is_sparse<P: Places, C: Cells>(x: &Leaves<'_, P, C>) -> bool {
+    if x.places.is_apart() {
+        return x.sparse;
+    }
+    false
+}
+
 /// Whether the number of each item is read before it is asked whether that is null: where each has
 /// a place, and a processor would not foresee that most are null.
 #[inline(always)]
@@ -27,7 +37,7 @@ pub(crate) fn is_ahead<P: Places, C: Cells>(x: &Leaves<'_, P, C>, first: u64, co
     ensures { result ≡ true → AreAhead (P.ahead x.now.places.now) first count
         (size_of (C.lane x.now.cells.now)) }
 {
-    if x.sparse {
+    if is_sparse(x) {
         return false;
     }
     x.places.reaches(x.cells, first, count)
@@ -47,7 +57,7 @@ pub(crate) fn is_void<P: Places, C: Cells, L: Ledger>(
     ensures { result ≡ true → numbers_from (leaf_number (P.at x.now.places.now)
         (C.lane x.now.cells.now)) first count ≡ [] }
 {
-    if !x.sparse {
+    if !is_sparse(x) {
         return false;
     }
     x.places.present(first, count, steps) == 0
@@ -202,7 +212,7 @@ pub fn is_some_there<P: Places, C: Cells, L: Ledger>(
     ensures { IsFilled result (numbers_from (leaf_number (P.at x.now.places.now)
         (C.lane x.now.cells.now)) first count) }
 {
-    if x.sparse {
+    if is_sparse(x) {
         return x.places.present(first, count, steps) > 0;
     }
     x.places.shows_some(first, count, steps)

@@ -14,8 +14,8 @@ ghost use Rattle.awk_nullable.specs.Numbers.{leaf_number, AreItems};
 use awk_columns::{Bounds, Span};
 use awk_lanes::{Arena, Kind, Lane, NoMemory, Num, Numbers, Steps, is_set, made_lane, number};
 use awk_nullable::{
-    Cells, Leaves, Places, count_of, extreme_number, is_some_there, place_of, product_of, sum_of,
-    tally_of,
+    Cells, Leaves, Places, count_of, extreme_number, is_some_there, is_sparse, place_of,
+    product_of, sum_of, tally_of,
 };
 use awk_numbers::{Extreme, Fold, Tally};
 use awk_parts::{Totals, fitting_lane, kind_of_tally, number_in, number_of_place, zero_of};
@@ -167,7 +167,7 @@ impl<'x, 'c, 'r, 'a, 'l, P: Places, C: Cells> Numbers for ListExtremes<'x, 'c, '
     fn number<L: Ledger>(&self, i: u64, steps: &mut Steps<L>) -> Num {
         let _ = self.lane.len();
         let leaves = self.lists.leaves;
-        if leaves.sparse {
+        if is_sparse(leaves) {
             if !is_set(self.mask, i, steps) {
                 return zero_of(self.lane.kind());
             }
@@ -242,7 +242,7 @@ impl<'x, 'c, 'r, 'a, 'l, P: Places, C: Cells> Numbers for ListPlaces<'x, 'c, 'r,
 
     fn number<L: Ledger>(&self, i: u64, steps: &mut Steps<L>) -> Num {
         let leaves = self.lists.leaves;
-        if leaves.sparse {
+        if is_sparse(leaves) {
             if !is_set(self.mask, i, steps) {
                 return Num::Int(0);
             }

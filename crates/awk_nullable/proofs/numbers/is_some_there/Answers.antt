@@ -4,8 +4,8 @@ use Rattle.awk_nullable.specs.Numbers.{leaf_number, numbers_from, present_count,
 use Rattle.awk_nullable.proofs.CountLaws.{present_filled}
 use Rattle.awk_nullable.proofs.numbers.is_some_there.Goals as goal
 
-pub returns-then-x : goal.returns-then-x
-returns-then-x g c =
+pub returns-then-is_sparse : goal.returns-then-is_sparse
+returns-then-is_sparse g c =
     let lane = g.C.Cells.lane c.args.x.now.cells.now in
     let f = g.P.Places.at c.args.x.now.places.now in
     let first = c.args.first in
