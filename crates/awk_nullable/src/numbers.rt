@@ -43,8 +43,7 @@ pub(crate) fn is_ahead<P: Places, C: Cells>(x: &Leaves<'_, P, C>, first: u64, co
     x.places.reaches(x.cells, first, count)
 }
 
-/// Whether so many items are all null, where most are: they are counted at once. Where not most
-/// are, it is not asked.
+/// Whether so many items are all null.
 #[inline(always)]
 pub(crate) fn is_void<P: Places, C: Cells, L: Ledger>(
     x: &Leaves<'_, P, C>,
@@ -57,9 +56,6 @@ pub(crate) fn is_void<P: Places, C: Cells, L: Ledger>(
     ensures { result ≡ true → numbers_from (leaf_number (P.at x.now.places.now)
         (C.lane x.now.cells.now)) first count ≡ [] }
 {
-    if !is_sparse(x) {
-        return false;
-    }
     x.places.present(first, count, steps) == 0
 }
 

@@ -9,7 +9,7 @@ ghost use Rattle.awk_nullable.specs.Numbers.{AreItems, AreLeading, AreAhead};
 
 use crate::cells::Cells;
 use crate::halves::{Halves, whole_of};
-use crate::numbers::{Leaves, is_ahead, is_void};
+use crate::numbers::{Leaves, is_sparse, is_void};
 use crate::places::Places;
 use awk_lanes::Steps;
 use std::sync::ledger::Ledger;
@@ -113,8 +113,10 @@ fn sum_by<P: Places, C: Cells, L: Ledger>(
     sum
 }
 
-/// The exact sum of so many items from a first one on.
-pub fn sum_of<P: Places, C: Cells, L: Ledger>(
+/// The exact sum, where most items are null. They are counted first, since mostly all are null. It
+/// stands apart, so that other sums are made as fast as without it.
+#[inline(never)]
+fn sparse_sum<P: Places, C: Cells, L: Ledger>(
     x: &Leaves<'_, P, C>,
     first: u64,
     count: u64,
@@ -128,7 +130,25 @@ pub fn sum_of<P: Places, C: Cells, L: Ledger>(
     if is_void(x, first, count, steps) {
         return 0;
     }
-    if is_ahead(x, first, count) {
+    whole_of(sum_by(false, x, first, count, steps))
+}
+
+/// The exact sum of so many items from a first one on.
+pub fn sum_of<P: Places, C: Cells, L: Ledger>(
+    x: &Leaves<'_, P, C>,
+    first: u64,
+    count: u64,
+    steps: &mut Steps<L>,
+) -> i128
+    requires items { AreItems (P.at x.now.places.now) (P.size x.now.places.now)
+        (C.lane x.now.cells.now) first count }
+    ensures { result ≡ total (numbers_from (leaf_number (P.at x.now.places.now)
+        (C.lane x.now.cells.now)) first count) }
+{
+    if is_sparse(x) {
+        return sparse_sum(x, first, count, steps);
+    }
+    if x.places.reaches(x.cells, first, count) {
         return whole_of(sum_by(true, x, first, count, steps));
     }
     whole_of(sum_by(false, x, first, count, steps))
