@@ -1,13 +1,14 @@
 //! Where the numbers of items lie, of which some may be null.
-ghost use Rattle.std.specs.Prelude.{◌≡◌, ◌-◌, ◌<◌, ◌≤◌, true, cond, length, map, [], ◌∷◌};
+ghost use Rattle.std.specs.Prelude.{◌≡◌, ◌+◌, ◌-◌, ◌<◌, ◌≤◌, ◌^◌, true, cond, length, map, [], ◌∷◌};
 ghost use Rattle.std.specs.Prelude.{get_or};
 ghost use Rattle.std.specs.List.{count_by};
 ghost use Rattle.std.specs.Option.{is_some};
 ghost use Rattle.awk_lanes.specs.Numbers.{number as number_of, is_nonzero, AreBytes};
-ghost use Rattle.awk_lanes.specs.Places.{size_of};
+ghost use Rattle.awk_lanes.specs.Places.{size_of, option_place_at};
 ghost use Rattle.awk_lanes.specs.declared.kind.Kind.TheVariants as Kind;
 ghost use Rattle.awk_layout.specs.Item.{agrees as agrees_of};
 ghost use Rattle.awk_nullable.specs.Masks.{if_shown};
+ghost use Rattle.awk_nullable.specs.Numbers.{present_count};
 
 use crate::cells::Cells;
 use awk_bits::Bits;
@@ -184,6 +185,21 @@ impl<'a> Places for Index<'a> {
     }
 }
 
+/// How many of so many items from a first one on are not null, counted in 32 bits as they lie.
+#[inline(always)]
+fn narrow_present(index: &NarrowIndex, first: u64, count: u64) -> u32
+    requires within { 0 < count → first + count ≤ size_of index.now }
+    requires small { first + count < 2 ^ 63 }
+    requires few { count ≤ 1073741824 }
+    ensures { result ≡ present_count (option_place_at index.now) first count }
+{
+    let mut present: u32 = 0;
+    for i in 0..count {
+        present += one_if_there(index.option_place(first + i)) as u32;
+    }
+    present
+}
+
 /// The same by numbers of 32 bits.
 impl<'a> Places for NarrowIndex<'a> {
     ghost use Rattle.std.specs.Option.{unwrap_or};
@@ -222,6 +238,11 @@ impl<'a> Places for NarrowIndex<'a> {
     #[inline(always)]
     fn reaches<C: Cells>(&self, cells: &C, _first: u64, _count: u64) -> bool {
         cells.len() > 0
+    }
+
+    #[inline(always)]
+    fn present<L: Ledger>(&self, first: u64, count: u64, _steps: &mut Steps<L>) -> u64 {
+        u64::from(narrow_present(self, first, count))
     }
 }
 
