@@ -8,7 +8,7 @@ ghost use Rattle.awk_counts.specs.Counted.{count_or_null, counted_lane};
 ghost use Rattle.awk_counts.specs.Narrow.{narrow_lane, HoldsCounts};
 
 use awk_index::Index;
-use awk_lanes::{Arena, IndexMaker, Lane, NarrowMaker, NoMemory, Num, NumberMaker, number};
+use awk_lanes::{Arena, GroupMaker, IndexMaker, Lane, NoMemory, Num, NumberMaker, number};
 use awk_narrow::OptionIndex;
 
 /// How many items are too many for an index of 32 bits.
@@ -90,7 +90,7 @@ pub fn counted_narrow<'a, P: OptionIndex>(index: &P, arena: &'a Arena) -> Result
 {
     let n = index.size();
     if n < NARROW_LIMIT {
-        let mut maker = NarrowMaker::new(n, arena)?;
+        let mut maker: GroupMaker<'a, 4, i32> = GroupMaker::new(n, arena)?;
         count_into(index, &mut maker);
         return Ok(maker.finish());
     }
