@@ -6,7 +6,9 @@ ghost use Rattle.awk_numbers.specs.Folds.{IsNear};
 ghost use Rattle.awk_parts.specs.Fits.{IsFitting, AreFitting, AreFirst, ArePushed};
 
 use crate::fits::fitting;
-use awk_lanes::{Arena, IndexMaker, Lane, LaneMaker, NoMemory, Num, NumberMaker, Steps};
+use awk_lanes::{
+    Arena, GroupMaker, IndexMaker, Lane, LaneMaker, NoMemory, Num, NumberMaker, Steps,
+};
 use awk_layout::kind_of;
 use awk_types::Prim;
 use std::sync::ledger::Ledger;
@@ -121,6 +123,25 @@ fn fitting_ints<'a, S: Totals, L: Ledger>(
     }
 }
 
+/// The same of u64.
+fn fitting_nats<'a, S: Totals, L: Ledger>(
+    n: u64,
+    source: &S,
+    arena: &'a Arena,
+    steps: &mut Steps<L>,
+) -> Result<Option<Lane<'a>>, NoMemory>
+    requires ready { S.IsReady source.now }
+    requires within { n ≤ S.size source.now }
+    ensures { IfOk result (AreFitting Prims.U64 (S.at source.now) n) }
+{
+    let mut maker: GroupMaker<'a, 8, u64> = GroupMaker::new(n, arena)?;
+    if push_totals(Prim::U64, 0, n, source, &mut maker, steps) {
+        Ok(Some(maker.finish()))
+    } else {
+        Ok(None)
+    }
+}
+
 /// The first n numbers as those of a primitive, or none where one does not fit. There is a loop for
 /// each primitive that sums and products are of.
 pub fn fitting_lane<'a, S: Totals, L: Ledger>(
@@ -136,7 +157,7 @@ pub fn fitting_lane<'a, S: Totals, L: Ledger>(
 {
     match prim {
         Prim::I64 => fitting_ints(n, source, arena, steps),
-        Prim::U64 => fitting_numbers(Prim::U64, n, source, arena, steps),
+        Prim::U64 => fitting_nats(n, source, arena, steps),
         _ => fitting_numbers(prim, n, source, arena, steps),
     }
 }

@@ -13,7 +13,7 @@ use crate::parts::{Parts, bounds_of};
 use crate::totals::{Totals, fitting_lane, push_totals};
 use crate::windows::RunningSums;
 use awk_cells::Cell;
-use awk_lanes::{Arena, IndexMaker, Kind, Lane, LaneMaker, NoMemory, NumberMaker, Steps};
+use awk_lanes::{Arena, GroupMaker, IndexMaker, Lane, NoMemory, NumberMaker, Steps};
 use awk_types::Prim;
 use std::sync::ledger::Ledger;
 
@@ -197,8 +197,9 @@ fn window_nats<'a, const W: usize, C: Cell<W>, S: Totals, L: Ledger>(
         (span_count parts.now.spans.now)) }
 {
     let window = RunningSums::new(groups.len() as u64, arena)?;
-    let mut maker = LaneMaker::new(Kind::U64, parts.spans.starts.len() as u64, arena)?;
-    if push_windows::<W, C, S, LaneMaker<'a>, L>(
+    let count = parts.spans.starts.len() as u64;
+    let mut maker: GroupMaker<'a, 8, u64> = GroupMaker::new(count, arena)?;
+    if push_windows::<W, C, S, GroupMaker<'a, 8, u64>, L>(
         Prim::U64,
         groups,
         parts,

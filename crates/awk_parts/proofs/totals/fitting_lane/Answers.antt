@@ -12,5 +12,5 @@ returns-in-I64 g c =
 pub returns-in-U64 : goal.returns-in-U64
 returns-in-U64 g c =
     let f = g.S.Totals.at c.args.source.now in
-    subst (λ p. IfOk c.fitting_numbers.result (AreFitting p f c.args.n)) (sym c.in-U64.is)
-    c.fitting_numbers.ensures
+    subst (λ p. IfOk c.fitting_nats.result (AreFitting p f c.args.n)) (sym c.in-U64.is)
+    c.fitting_nats.ensures
