@@ -1,7 +1,7 @@
 -- How many items are not null.
 use Rattle.std.proofs.Common.{◌≡◌, ℕ, zero, suc, ◌+◌, ◌-◌, ◌<◌, ◌≤◌, List, [], ◌∷◌, length, map}
 use Rattle.std.proofs.Common.{take, drop, get_or, refl, ap, ap₂, sym, ◌∙◌, subst, arith}
-use Rattle.std.specs.Prelude.{Bool, true, false, cond, not, ◌==◌, nat_lt, ℤ, pos, negsuc}
+use Rattle.std.specs.Prelude.{Bool, true, false, cond, not, ◌==◌, ℤ, pos, negsuc}
 use Rattle.std.specs.Prelude.{Option, Some, None}
 use Rattle.std.specs.Int.{cast_signed, cast_unsigned, w8}
 use Rattle.std.specs.List.{range_with_len, count_by, flat_map}
@@ -18,7 +18,6 @@ use Rattle.awk_lanes.specs.Places.{at}
 use Rattle.awk_lanes.specs.declared.kind.Kind.TheVariants.{I8}
 use Rattle.awk_nullable.specs.Masks.{if_shown, byte_place}
 use Rattle.awk_nullable.specs.Numbers.{leaf_number, number_list, numbers_from, present_count}
-use Rattle.awk_nullable.specs.Numbers.{IsFilled}
 
 abbrev one_of : Bool → ℕ
 one_of b = cond b 1 0
@@ -62,19 +61,6 @@ module _ (f : ℕ → Option ℕ) where
       one None = refl
       one (Some k) = refl
 
-  -- whether there is one
-  pub present_filled : (c : Column) (a n : ℕ)
-      → IsFilled (nat_lt 0 (present_count f a n)) (numbers_from (leaf_number f c) a n)
-  present_filled c a n =
-      let zs = numbers_from (leaf_number f c) a n in
-      subst (λ k. IsFilled (nat_lt 0 k) zs) (sym (present-numbers c a n)) (filled zs)
-    where
-      filled : (zs : List ℤ) → IsFilled (nat_lt 0 (length zs)) zs
-      filled [] = refl
-      filled (z ∷ zs) =
-          let some : nat_lt 0 (suc (length zs)) ≡ true = grind arith in
-          subst (λ b. IsFilled b (z ∷ zs)) (sym some) (λ e. cc)
-
   -- no numbers, if none is there
   pub none_present : (c : Column) (a n : ℕ) → present_count f a n ≡ 0
       → numbers_from (leaf_number f c) a n ≡ []
@@ -84,26 +70,6 @@ module _ (f : ℕ → Option ℕ) where
       empty : (zs : List ℤ) → length zs ≡ 0 → zs ≡ []
       empty [] h = refl
       empty (z ∷ zs) h = absurd (omega (arith, h))
-
-  -- there is one, if item i is there
-  pub present_some : (a n i : ℕ) → i < n → is_some (f (a + i)) ≡ true
-      → nat_lt 0 (present_count f a n) ≡ true
-  present_some a n i l e =
-      let some = below a n i l e in
-      grind (arith, some)
-    where
-      below : (a n i : ℕ) → i < n → is_some (f (a + i)) ≡ true → 0 < present_count f a n
-      below a zero i l e = absurd (omega (arith, l))
-      below a (suc n) zero l e =
-          let here : a + 0 ≡ a = omega arith in
-          let one : one_some (f a) ≡ 1 =
-          ap one_of (sym (ap (λ k. is_some (f k)) here) ∙ e) in
-          omega (arith, present-cons a n, one)
-      below a (suc n) (suc i) l e =
-          let next : a + suc i ≡ a + 1 + i = omega arith in
-          let some = below (a + 1) n i (omega (arith, l))
-          (sym (ap (λ k. is_some (f k)) next) ∙ e) in
-          omega (arith, present-cons a n, some)
 
 -- each item is there
 pub present-all : (a n : ℕ) → present_count (λ i. Some i) a n ≡ n
@@ -170,45 +136,3 @@ module _ (gs : List (List ℕ)) where
       ≡ cond v (set_count (take n (drop a gs))) (n - set_count (take n (drop a gs)))
   present-bytes true a n l = set_present a n l
   present-bytes false a n l = omega (arith, unset_present a n l)
-
--- ---- bytes, and groups of one byte each
-
-abbrev pub alone : ℕ → List ℕ
-alone b = b ∷ []
-
--- bytes that are not 0, counted as numbers
-pub bytes_set : (ns : List ℕ) → AreBytes ns → count_true ns ≡ set_count (map alone ns)
-bytes_set [] h = refl
-bytes_set (n ∷ ns) h =
-    sum_by-cons (λ x. one_of (not (x == 0))) n ns
-    ∙ ap₂ (λ a b. a + b) (one n (h 0)) (bytes_set ns (λ i. h (suc i)))
-    ∙ sym (sum_by-cons (λ z. one_of (is_nonzero z)) (number I8 (alone n))
-    (map (number I8) (map alone ns)))
-  where
-    one : (n : ℕ) → n < 256
-        → ◌≡◌ {A = ℕ} (one_of (not (n == 0))) (one_of (is_nonzero (cast_signed w8 n)))
-    one zero l = refl
-    one (suc m) l = go (cast_signed w8 (suc m)) (of_z-to_z w8 (suc m) l)
-      where
-        other : (suc m == 0) ≡ false
-        other = grind arith
-
-        go : (z : ℤ) → cast_unsigned w8 z ≡ suc m
-            → ◌≡◌ {A = ℕ} (one_of (not (suc m == 0))) (one_of (is_nonzero z))
-        go (pos zero) e = absurd (omega (arith, e))
-        go (pos (suc k)) e = ap (λ b. one_of (not b)) other
-        go (negsuc k) e = ap (λ b. one_of (not b)) other
-
--- groups of one byte each, by their bytes
-pub groups_alone : (gs : List (List ℕ))
-    → ((i : ℕ) → i < length gs → length (get_or gs i []) ≡ 1)
-    → gs ≡ map alone (flat_map (λ x. x) gs)
-groups_alone [] h = refl
-groups_alone ((b ∷ []) ∷ gs) h =
-    ap (λ hs. alone b ∷ hs) (groups_alone gs (λ i l. h (suc i) (omega (arith, l))))
-groups_alone ([] ∷ gs) h =
-    let none : 0 ≡ 1 = h 0 (omega arith) in
-    absurd (omega (arith, none))
-groups_alone ((b ∷ x ∷ xs) ∷ gs) h =
-    let many : suc (suc (length xs)) ≡ 1 = h 0 (omega arith) in
-    absurd (omega (arith, many))

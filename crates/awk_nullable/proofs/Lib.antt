@@ -2,6 +2,7 @@ mod NumberLaws
 mod CountLaws
 mod FindLaws
 pub mod BestLaws
+pub mod FirstLaws
 mod HalvesLaws
 mod TruthLaws
 mod KeyLaws

@@ -1,6 +1,5 @@
 -- The numbers of items of which some may be null, by the place in a lane of each.
-use Rattle.std.specs.Prelude.{◌≡◌, ◌≢◌, ℕ, ◌+◌, ◌<◌, ◌≤◌, ◌^◌, ℤ, Bool, true, false, List, []}
-use Rattle.std.specs.Prelude.{◌∷◌, map, Option, Some, None}
+use Rattle.std.specs.Prelude.{◌≡◌, ℕ, ◌+◌, ◌<◌, ◌≤◌, ◌^◌, ℤ, List, [], ◌∷◌, map, Option, Some, None}
 use Rattle.std.specs.List.{range_with_len, flat_map, count_by}
 use Rattle.std.specs.Option.{is_some, option_map}
 use Rattle.awk_lanes.specs.Column.{Column}
@@ -21,11 +20,6 @@ numbers_from g first n = flat_map (λ i. number_list (g i)) (range_with_len firs
 -- how many of n items from one on are not null
 abbrev pub present_count : (ℕ → Option ℕ) → ℕ → ℕ → ℕ
 present_count f first n = count_by is_some (map f (range_with_len first n))
-
--- whether there is a number
-abbrev pub IsFilled : Bool → List ℤ → Type 0
-IsFilled true zs = zs ≢ []
-IsFilled false zs = zs ≡ []
 
 -- of n items each that is not null has a place among m numbers
 abbrev pub AreLeading : (ℕ → Option ℕ) → ℕ → ℕ → Type 0

@@ -8,7 +8,7 @@ ghost use Rattle.awk_nullable.specs.Numbers.{leaf_number, numbers_from, AreItems
 
 use crate::cells::Cells;
 use crate::keys::{Found, after, key_by, key_of, worst_key};
-use crate::numbers::{Leaves, is_ahead};
+use crate::numbers::{Leaves, is_ahead, is_sparse, is_void};
 use crate::places::Places;
 use awk_lanes::Steps;
 use awk_numbers::{Extreme, Greater, Lesser, Side};
@@ -243,6 +243,28 @@ fn place_twice<P: Places, C: Cells, L: Ledger>(
     }
 }
 
+/// The same where most items are null. They are counted first, since mostly all are null. It stands
+/// apart, so that other places are found as fast as without it.
+#[inline(never)]
+fn sparse_place<P: Places, C: Cells, L: Ledger>(
+    how: Extreme,
+    x: &Leaves<'_, P, C>,
+    first: u64,
+    count: u64,
+    steps: &mut Steps<L>,
+) -> Option<u64>
+    requires items { AreItems (P.at x.now.places.now) (P.size x.now.places.now)
+        (C.lane x.now.cells.now) first count }
+    ensures place { result ≡ extreme_place how (leaf_number (P.at x.now.places.now)
+        (C.lane x.now.cells.now)) first count }
+    ensures inside { IfSome result (λ k. k < count) }
+{
+    if is_void(x, first, count, steps) {
+        return None;
+    }
+    place_at_once(how, x, first, count, steps)
+}
+
 /// Where in a span of items the extreme stands first, nulls counted. By an index the items are read
 /// once; by a mask, where they lie side by side, twice, each time without a branch at an item.
 pub fn place_of<P: Places, C: Cells, L: Ledger>(
@@ -258,6 +280,9 @@ pub fn place_of<P: Places, C: Cells, L: Ledger>(
         (C.lane x.now.cells.now)) first count }
     ensures small { IfSome result (λ k. k < 2 ^ 63) }
 {
+    if is_sparse(x) {
+        return sparse_place(how, x, first, count, steps);
+    }
     if x.places.is_apart() {
         return place_at_once(how, x, first, count, steps);
     }

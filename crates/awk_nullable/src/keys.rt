@@ -8,7 +8,7 @@ ghost use Rattle.awk_nullable.specs.Numbers.{leaf_number, numbers_from};
 ghost use Rattle.awk_nullable.specs.Numbers.{AreItems, AreLeading, AreAhead};
 
 use crate::cells::Cells;
-use crate::numbers::{Leaves, is_ahead};
+use crate::numbers::{Leaves, is_ahead, is_sparse, is_void};
 use crate::places::Places;
 use awk_lanes::Steps;
 use awk_numbers::{Extreme, Greater, Lesser, Side};
@@ -206,8 +206,9 @@ fn number_of_key(key: i64, shift: i64) -> i128
     i128::from(key) - i128::from(shift)
 }
 
-/// The least or the greatest of so many items from a first one on, or none where all are null.
-pub fn extreme_number<P: Places, C: Cells, L: Ledger>(
+/// The number of the key of the extreme of the items, or none where all are null.
+#[inline(always)]
+fn keyed_number<P: Places, C: Cells, L: Ledger>(
     how: Extreme,
     x: &Leaves<'_, P, C>,
     first: u64,
@@ -223,4 +224,44 @@ pub fn extreme_number<P: Places, C: Cells, L: Ledger>(
         Some(key) => Some(number_of_key(key, x.cells.shift())),
         None => None,
     }
+}
+
+/// The extreme where most items are null. They are counted first, since mostly all are null. It
+/// stands apart, so that other extremes are found as fast as without it.
+#[inline(never)]
+fn sparse_number<P: Places, C: Cells, L: Ledger>(
+    how: Extreme,
+    x: &Leaves<'_, P, C>,
+    first: u64,
+    count: u64,
+    steps: &mut Steps<L>,
+) -> Option<i128>
+    requires items { AreItems (P.at x.now.places.now) (P.size x.now.places.now)
+        (C.lane x.now.cells.now) first count }
+    ensures { IsExtreme how (C.lane x.now.cells.now) (numbers_from (leaf_number
+        (P.at x.now.places.now) (C.lane x.now.cells.now)) first count) result }
+{
+    if is_void(x, first, count, steps) {
+        return None;
+    }
+    keyed_number(how, x, first, count, steps)
+}
+
+/// The least or the greatest of so many items from a first one on, or none where all are null.
+pub fn extreme_number<P: Places, C: Cells, L: Ledger>(
+    how: Extreme,
+    x: &Leaves<'_, P, C>,
+    first: u64,
+    count: u64,
+    steps: &mut Steps<L>,
+) -> Option<i128>
+    requires items { AreItems (P.at x.now.places.now) (P.size x.now.places.now)
+        (C.lane x.now.cells.now) first count }
+    ensures { IsExtreme how (C.lane x.now.cells.now) (numbers_from (leaf_number
+        (P.at x.now.places.now) (C.lane x.now.cells.now)) first count) result }
+{
+    if is_sparse(x) {
+        return sparse_number(how, x, first, count, steps);
+    }
+    keyed_number(how, x, first, count, steps)
 }

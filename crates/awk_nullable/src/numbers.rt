@@ -2,7 +2,7 @@
 ghost use Rattle.std.specs.Prelude.{◌≡◌, ◌<◌, ◌≤◌, true, [], length, unsigned_abs, IfSome};
 ghost use Rattle.awk_lanes.specs.Places.{size_of};
 ghost use Rattle.awk_nullable.specs.Numbers.{leaf_number, numbers_from};
-ghost use Rattle.awk_nullable.specs.Numbers.{AreItems, AreLeading, AreAhead, IsFilled};
+ghost use Rattle.awk_nullable.specs.Numbers.{AreItems, AreLeading, AreAhead};
 
 use crate::cells::Cells;
 use crate::places::Places;
@@ -21,7 +21,7 @@ pub struct Leaves<'c, P: Places, C: Cells> {
 /// Whether most items are null, as it is told. Where numbers lie beside their items, it is never
 /// asked.
 #[inline(always)]
-pub fn is_sparse<P: Places, C: Cells>(x: &Leaves<'_, P, C>) -> bool {
+pub(crate) fn is_sparse<P: Places, C: Cells>(x: &Leaves<'_, P, C>) -> bool {
     if x.places.is_apart() {
         return x.sparse;
     }
@@ -181,6 +181,7 @@ pub(crate) fn total_of<T: Total, P: Places, C: Cells, L: Ledger>(
 }
 
 /// How many of so many items from a first one on are not null.
+#[inline(always)]
 pub fn count_of<P: Places, C: Cells, L: Ledger>(
     x: &Leaves<'_, P, C>,
     first: u64,
@@ -194,22 +195,4 @@ pub fn count_of<P: Places, C: Cells, L: Ledger>(
     ensures few { result ≤ count }
 {
     x.places.present(first, count, steps)
-}
-
-/// Whether one of so many items from a first one on is not null.
-pub fn is_some_there<P: Places, C: Cells, L: Ledger>(
-    x: &Leaves<'_, P, C>,
-    first: u64,
-    count: u64,
-    steps: &mut Steps<L>,
-) -> bool
-    requires items { AreItems (P.at x.now.places.now) (P.size x.now.places.now)
-        (C.lane x.now.cells.now) first count }
-    ensures { IsFilled result (numbers_from (leaf_number (P.at x.now.places.now)
-        (C.lane x.now.cells.now)) first count) }
-{
-    if is_sparse(x) {
-        return x.places.present(first, count, steps) > 0;
-    }
-    x.places.shows_some(first, count, steps)
 }

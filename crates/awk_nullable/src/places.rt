@@ -1,9 +1,9 @@
 //! Where the numbers of items lie, of which some may be null.
-ghost use Rattle.std.specs.Prelude.{◌≡◌, ◌+◌, ◌-◌, ◌<◌, ◌≤◌, ◌^◌, true, cond, length, map, [], ◌∷◌};
+ghost use Rattle.std.specs.Prelude.{◌≡◌, ◌+◌, ◌-◌, ◌<◌, ◌≤◌, ◌^◌, true, cond, length, map, []};
 ghost use Rattle.std.specs.Prelude.{get_or};
 ghost use Rattle.std.specs.List.{count_by};
 ghost use Rattle.std.specs.Option.{is_some};
-ghost use Rattle.awk_lanes.specs.Numbers.{number as number_of, is_nonzero, AreBytes};
+ghost use Rattle.awk_lanes.specs.Numbers.{number as number_of, is_nonzero};
 ghost use Rattle.awk_lanes.specs.Places.{size_of, option_place_at};
 ghost use Rattle.awk_lanes.specs.declared.kind.Kind.TheVariants as Kind;
 ghost use Rattle.awk_layout.specs.Item.{agrees as agrees_of};
@@ -12,7 +12,7 @@ ghost use Rattle.awk_nullable.specs.Numbers.{present_count};
 
 use crate::cells::Cells;
 use awk_bits::Bits;
-use awk_cells::count_set;
+use awk_cells::nonzero_in;
 use awk_index::Index;
 use awk_lanes::Steps;
 use awk_narrow::{NarrowIndex, OptionIndex};
@@ -20,7 +20,7 @@ use std::sync::ledger::Ledger;
 
 /// Where the numbers of items lie.
 pub trait Places {
-    ghost use Rattle.std.specs.Prelude.{ℕ, ◌+◌, ◌≤◌, ◌^◌, nat_lt, Option};
+    ghost use Rattle.std.specs.Prelude.{ℕ, ◌+◌, ◌≤◌, ◌^◌, Option};
     ghost use Rattle.awk_nullable.specs.Numbers.{AreItems, AreAhead, present_count};
 
     /// The place of an item's number, or none where the item is null.
@@ -77,23 +77,6 @@ pub trait Places {
             present += one_if_there(self.place(first + i, steps));
         }
         present
-    }
-
-    /// Whether one of so many items from a first one on is not null. The first one that is not is
-    /// the last that is asked, where many are not told of at once.
-    fn shows_some<L: Ledger>(&self, first: u64, count: u64, steps: &mut Steps<L>) -> bool
-        requires within { 0 < count → first + count ≤ size self.now }
-        requires small { first + count < 2 ^ 63 }
-        requires few { count ≤ 1073741824 }
-        ensures { result ≡ nat_lt 0 (present_count (at self.now) first count) }
-    {
-        for i in 0..count {
-            match self.place(first + i, steps) {
-                Some(_) => return true,
-                None => {}
-            }
-        }
-        false
     }
 }
 
@@ -266,22 +249,11 @@ fn byte_shows(mask: &ByteMask, i: u64) -> bool
 
 /// How many bytes of a mask are not 0, counted in blocks.
 #[inline(always)]
-fn set_bytes(bytes: &[u8]) -> u64
-    requires bytes { AreBytes bytes.now }
-    requires few { length bytes.now ≤ 1073741824 }
-    ensures { result ≡ count_by is_nonzero (map (number_of Kind.I8) (map (λ b. b ∷ []) bytes.now)) }
-{
-    count_set(bytes)
-}
-
-/// The same of bytes each in a group of its own.
-#[inline(always)]
 fn set_in(groups: &[[u8; 1]]) -> u64
     requires few { length groups.now ≤ 1073741824 }
     ensures { result ≡ count_by is_nonzero (map (number_of Kind.I8) groups.now) }
 {
-    let bytes = groups.as_flattened();
-    set_bytes(bytes)
+    nonzero_in::<1, i8>(groups)
 }
 
 /// How many of so many bytes say that an item is there, by how many are not 0.
@@ -330,18 +302,6 @@ impl<'a> Places for ByteMask<'a> {
         }
         let part = &self.bytes[first as usize..(first + count) as usize];
         agreeing(self.valid_when, set_in(part), count)
-    }
-
-    // Most masks hide little or have no pattern: the first item is asked, and then all at once.
-    #[inline(always)]
-    fn shows_some<L: Ledger>(&self, first: u64, count: u64, steps: &mut Steps<L>) -> bool {
-        if count == 0 {
-            return false;
-        }
-        if byte_shows(self, first) {
-            return true;
-        }
-        self.present(first, count, steps) > 0
     }
 }
 
@@ -421,10 +381,5 @@ impl Places for Every {
     #[inline(always)]
     fn present<L: Ledger>(&self, _first: u64, count: u64, _steps: &mut Steps<L>) -> u64 {
         count
-    }
-
-    #[inline(always)]
-    fn shows_some<L: Ledger>(&self, _first: u64, count: u64, _steps: &mut Steps<L>) -> bool {
-        count > 0
     }
 }

@@ -1,3 +1,3 @@
 mod NullableLaws
 mod ElementLaws
-mod MaskLaws
+mod MarkLaws

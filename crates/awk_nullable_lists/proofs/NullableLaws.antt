@@ -24,14 +24,12 @@ use Rattle.awk_gather_lanes.proofs.MovedGroups.{length-groups, number-group}
 use Rattle.awk_open.specs.Opened.{IsOpened}
 use Rattle.awk_open.specs.declared.opening.Opened.TheVariants as opened
 use Rattle.awk_columns.proofs.ArrayLaws.{array_items-at}
-use Rattle.awk_parts.specs.Lanes.{mask_byte, some_place}
 use Rattle.awk_present.specs.Numbers.{leaf_of}
 use Rattle.awk_present.specs.Present.{AreLeaves as AreLaneOf}
 use Rattle.awk_present.proofs.LeafLaws.{leaf_of-opt}
 use Rattle.awk_present.proofs.PresentLaws.{leaves-count, index_into}
 use Rattle.awk_present.proofs.TakenLanes.{named_within}
 use Rattle.awk_nullable.specs.Masks.{if_shown, byte_place, bit_place}
-use Rattle.awk_nullable.specs.Numbers.{IsFilled}
 use Rattle.awk_nullable_lists.specs.Nullable.{AreLeaves}
 
 shown_item : (b : Bool) (i : ℕ) (h : ℕ → Value)
@@ -152,11 +150,3 @@ module _ (c : Column) where
           opens.items i (omega (arith, l, opens.size))
           ∙ item_by (at j i) (opens.valid.1.below i l);
     }
-
-pub byte_there : (zs : List ℤ) → IsFilled true zs → mask_byte (some_place zs) ≡ pos 1
-byte_there [] h = absurd (h refl)
-byte_there (z ∷ zs) h = refl
-
-pub byte_nowhere : (zs : List ℤ) → IsFilled false zs → mask_byte (some_place zs) ≡ pos 0
-byte_nowhere [] h = refl
-byte_nowhere (z ∷ zs) h = let w : z ∷ zs ≡ [] = h in cc

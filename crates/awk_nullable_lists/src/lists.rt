@@ -12,10 +12,12 @@ ghost use Rattle.awk_nullable_lists.specs.Lists.{AreNullable};
 ghost use Rattle.awk_nullable.specs.Numbers.{leaf_number, AreItems};
 
 use awk_columns::{Bounds, Span};
-use awk_lanes::{Arena, Kind, Lane, NoMemory, Num, Numbers, Steps, is_set, made_lane, number};
+use awk_lanes::{
+    Arena, Kind, Lane, Marked, MarkedNumbers, NoMemory, Num, Numbers, Steps, made_lane,
+    marked_lanes, number,
+};
 use awk_nullable::{
-    Cells, Leaves, Places, count_of, extreme_number, is_some_there, is_sparse, place_of,
-    product_of, sum_of, tally_of,
+    Cells, Leaves, Places, count_of, extreme_number, place_of, product_of, sum_of, tally_of,
 };
 use awk_numbers::{Extreme, Fold, Tally};
 use awk_parts::{Totals, fitting_lane, kind_of_tally, number_in, number_of_place, zero_of};
@@ -131,21 +133,18 @@ pub fn tally_lists<'b, P: Places, C: Cells, L: Ledger>(
     }
 }
 
-/// The extreme of each list, and 0 where all its items are null. Where most items are, a mask tells
-/// which lists these are, and no item is read of them.
+/// The extreme of each list, and 0 where all its items are null.
 #[derive(Drop)]
 struct ListExtremes<'x, 'c, 'r, 'a, 'l, P: Places, C: Cells> {
     how: Extreme,
     lane: &'x Lane<'l>,
-    mask: &'x Lane<'l>,
     lists: &'x LeafLists<'c, 'r, 'a, P, C>,
 }
 
-impl<'x, 'c, 'r, 'a, 'l, P: Places, C: Cells> Numbers for ListExtremes<'x, 'c, 'r, 'a, 'l, P, C> {
+impl<'x, 'c, 'r, 'a, 'l, P: Places, C: Cells> MarkedNumbers
+    for ListExtremes<'x, 'c, 'r, 'a, 'l, P, C> {
     ghost use Rattle.std.specs.Prelude.{◌≡◌};
-    ghost use Rattle.awk_lanes.specs.Made.{lane_of};
     ghost use Rattle.awk_lanes.specs.Places.{size_of};
-    ghost use Rattle.awk_lanes.specs.declared.kind.Kind.TheVariants as Kind;
     ghost use Rattle.awk_nullable_lists.specs.Lists.{extreme_at, present_at, AreNullable};
     ghost use Rattle.awk_nullable.specs.Numbers.{leaf_number};
 
@@ -155,72 +154,59 @@ impl<'x, 'c, 'r, 'a, 'l, P: Places, C: Cells> Numbers for ListExtremes<'x, 'c, '
         (leaf_number (P.at f.lists.now.leaves.now.places.now)
         (C.lane f.lists.now.leaves.now.cells.now)) };
 
+    ghost mark = { λ f. present_at f.lists.now.bounds.now
+        (leaf_number (P.at f.lists.now.leaves.now.places.now)
+        (C.lane f.lists.now.leaves.now.cells.now)) };
+
     ghost size = { λ f. size_of f.lists.now.bounds.now.starts };
 
     ghost IsReady = { λ f. (f.lane.now ≡ C.lane f.lists.now.leaves.now.cells.now)
-        × (f.mask.now ≡ lane_of Kind.I8 (size_of f.lists.now.bounds.now.starts)
-        (present_at f.lists.now.bounds.now (leaf_number (P.at f.lists.now.leaves.now.places.now)
-        (C.lane f.lists.now.leaves.now.cells.now))))
         × AreNullable f.lists.now.bounds.now (P.at f.lists.now.leaves.now.places.now)
         (P.size f.lists.now.leaves.now.places.now) (C.lane f.lists.now.leaves.now.cells.now) };
 
-    fn number<L: Ledger>(&self, i: u64, steps: &mut Steps<L>) -> Num {
+    fn number<L: Ledger>(&self, i: u64, steps: &mut Steps<L>) -> (Num, bool) {
         let _ = self.lane.len();
-        let leaves = self.lists.leaves;
-        if is_sparse(leaves) {
-            if !is_set(self.mask, i, steps) {
-                return zero_of(self.lane.kind());
-            }
-        }
         let span = span_of(self.lists, i);
+        let leaves = self.lists.leaves;
         match extreme_number(self.how, leaves, span.start, span.length, steps) {
-            Some(z) => number_in(self.lane.kind(), z),
-            None => zero_of(self.lane.kind()),
+            Some(z) => (number_in(self.lane.kind(), z), true),
+            None => (zero_of(self.lane.kind()), false),
         }
     }
 }
 
-/// The least or the greatest item of each list, and 0 where all its items are null. The mask is
-/// that of `present_lists`.
+/// The least or the greatest item of each list, and 0 where all its items are null, with a mask of
+/// the lists that have an item that is not.
 pub fn extreme_lists<'b, P: Places, C: Cells, L: Ledger>(
     how: Extreme,
     lane: &Lane,
-    mask: &Lane,
     lists: &LeafLists<'_, '_, '_, P, C>,
     arena: &'b Arena,
     steps: &mut Steps<L>,
-) -> Result<Lane<'b>, NoMemory>
+) -> Result<Marked<'b>, NoMemory>
     requires lane { lane.now ≡ C.lane lists.now.leaves.now.cells.now }
-    requires mask { mask.now ≡ lane_of Kind.I8 (size_of lists.now.bounds.now.starts)
-        (present_at lists.now.bounds.now (leaf_number (P.at lists.now.leaves.now.places.now)
-        (C.lane lists.now.leaves.now.cells.now))) }
     requires ready { AreNullable lists.now.bounds.now (P.at lists.now.leaves.now.places.now)
         (P.size lists.now.leaves.now.places.now) (C.lane lists.now.leaves.now.cells.now) }
-    ensures { IfOk result (λ r. r ≡ lane_of lane.now.kind (size_of lists.now.bounds.now.starts)
+    ensures items { IfOk result (λ r. r.numbers
+        ≡ lane_of lane.now.kind (size_of lists.now.bounds.now.starts)
         (extreme_at how lists.now.bounds.now (leaf_number (P.at lists.now.leaves.now.places.now)
         (C.lane lists.now.leaves.now.cells.now)))) }
+    ensures mask { IfOk result (λ r. r.mask ≡ lane_of Kind.I8 (size_of lists.now.bounds.now.starts)
+        (present_at lists.now.bounds.now (leaf_number (P.at lists.now.leaves.now.places.now)
+        (C.lane lists.now.leaves.now.cells.now)))) }
 {
-    let source = ListExtremes {
-        how,
-        lane,
-        mask,
-        lists,
-    };
-    made_lane(lane.kind(), lists.bounds.len(), &source, arena, steps)
+    let source = ListExtremes { how, lane, lists };
+    marked_lanes(lane.kind(), lists.bounds.len(), &source, arena, steps)
 }
 
-/// Where in each list its extreme stands, and 0 where all its items are null. Where most items are,
-/// a mask tells which lists these are, and no item is read of them.
+/// Where in each list its extreme stands, and 0 where all its items are null.
 #[derive(Drop)]
-struct ListPlaces<'x, 'c, 'r, 'a, 'l, P: Places, C: Cells> {
+struct ListPlaces<'x, 'c, 'r, 'a, P: Places, C: Cells> {
     how: Extreme,
-    mask: &'x Lane<'l>,
     lists: &'x LeafLists<'c, 'r, 'a, P, C>,
 }
 
-impl<'x, 'c, 'r, 'a, 'l, P: Places, C: Cells> Numbers for ListPlaces<'x, 'c, 'r, 'a, 'l, P, C> {
-    ghost use Rattle.std.specs.Prelude.{◌≡◌};
-    ghost use Rattle.awk_lanes.specs.Made.{lane_of};
+impl<'x, 'c, 'r, 'a, P: Places, C: Cells> MarkedNumbers for ListPlaces<'x, 'c, 'r, 'a, P, C> {
     ghost use Rattle.awk_lanes.specs.Places.{size_of};
     ghost use Rattle.awk_lanes.specs.declared.kind.Kind.TheVariants as Kind;
     ghost use Rattle.awk_nullable_lists.specs.Lists.{local_at, present_at, AreNullable};
@@ -232,63 +218,7 @@ impl<'x, 'c, 'r, 'a, 'l, P: Places, C: Cells> Numbers for ListPlaces<'x, 'c, 'r,
         (leaf_number (P.at f.lists.now.leaves.now.places.now)
         (C.lane f.lists.now.leaves.now.cells.now)) };
 
-    ghost size = { λ f. size_of f.lists.now.bounds.now.starts };
-
-    ghost IsReady = { λ f. (f.mask.now ≡ lane_of Kind.I8 (size_of f.lists.now.bounds.now.starts)
-        (present_at f.lists.now.bounds.now (leaf_number (P.at f.lists.now.leaves.now.places.now)
-        (C.lane f.lists.now.leaves.now.cells.now))))
-        × AreNullable f.lists.now.bounds.now (P.at f.lists.now.leaves.now.places.now)
-        (P.size f.lists.now.leaves.now.places.now) (C.lane f.lists.now.leaves.now.cells.now) };
-
-    fn number<L: Ledger>(&self, i: u64, steps: &mut Steps<L>) -> Num {
-        let leaves = self.lists.leaves;
-        if is_sparse(leaves) {
-            if !is_set(self.mask, i, steps) {
-                return Num::Int(0);
-            }
-        }
-        let span = span_of(self.lists, i);
-        number_of_place(place_of(self.how, leaves, span.start, span.length, steps))
-    }
-}
-
-/// Where in each list its least or greatest item stands first, nulls counted, and 0 where all its
-/// items are null. The mask is that of `present_lists`.
-pub fn place_lists<'b, P: Places, C: Cells, L: Ledger>(
-    how: Extreme,
-    mask: &Lane,
-    lists: &LeafLists<'_, '_, '_, P, C>,
-    arena: &'b Arena,
-    steps: &mut Steps<L>,
-) -> Result<Lane<'b>, NoMemory>
-    requires mask { mask.now ≡ lane_of Kind.I8 (size_of lists.now.bounds.now.starts)
-        (present_at lists.now.bounds.now (leaf_number (P.at lists.now.leaves.now.places.now)
-        (C.lane lists.now.leaves.now.cells.now))) }
-    requires ready { AreNullable lists.now.bounds.now (P.at lists.now.leaves.now.places.now)
-        (P.size lists.now.leaves.now.places.now) (C.lane lists.now.leaves.now.cells.now) }
-    ensures { IfOk result (λ r. r ≡ lane_of Kind.I64 (size_of lists.now.bounds.now.starts)
-        (local_at how lists.now.bounds.now (leaf_number (P.at lists.now.leaves.now.places.now)
-        (C.lane lists.now.leaves.now.cells.now)))) }
-{
-    let source = ListPlaces { how, mask, lists };
-    made_lane(Kind::I64, lists.bounds.len(), &source, arena, steps)
-}
-
-/// A mask of the lists that have an item that is not null.
-#[derive(Drop)]
-struct ListsPresent<'x, 'c, 'r, 'a, P: Places, C: Cells> {
-    lists: &'x LeafLists<'c, 'r, 'a, P, C>,
-}
-
-impl<'x, 'c, 'r, 'a, P: Places, C: Cells> Numbers for ListsPresent<'x, 'c, 'r, 'a, P, C> {
-    ghost use Rattle.awk_lanes.specs.declared.kind.Kind.TheVariants as Kind;
-    ghost use Rattle.awk_lanes.specs.Places.{size_of};
-    ghost use Rattle.awk_nullable_lists.specs.Lists.{present_at, AreNullable};
-    ghost use Rattle.awk_nullable.specs.Numbers.{leaf_number};
-
-    ghost kind = { λ _. Kind.I8 };
-
-    ghost at = { λ f. present_at f.lists.now.bounds.now
+    ghost mark = { λ f. present_at f.lists.now.bounds.now
         (leaf_number (P.at f.lists.now.leaves.now.places.now)
         (C.lane f.lists.now.leaves.now.cells.now)) };
 
@@ -298,32 +228,34 @@ impl<'x, 'c, 'r, 'a, P: Places, C: Cells> Numbers for ListsPresent<'x, 'c, 'r, '
         (P.at f.lists.now.leaves.now.places.now) (P.size f.lists.now.leaves.now.places.now)
         (C.lane f.lists.now.leaves.now.cells.now) };
 
-    fn number<L: Ledger>(&self, i: u64, steps: &mut Steps<L>) -> Num {
-        let _ = self.lists.bounds.len();
+    fn number<L: Ledger>(&self, i: u64, steps: &mut Steps<L>) -> (Num, bool) {
         let span = span_of(self.lists, i);
         let leaves = self.lists.leaves;
-        if is_some_there(leaves, span.start, span.length, steps) {
-            Num::Int(1)
-        } else {
-            Num::Int(0)
-        }
+        let place = place_of(self.how, leaves, span.start, span.length, steps);
+        (number_of_place(place), place.is_some())
     }
 }
 
-/// A mask of the lists that have an item that is not null: 1 for such a list, else 0.
-pub fn present_lists<'b, P: Places, C: Cells, L: Ledger>(
+/// Where in each list its least or greatest item stands first, nulls counted, and 0 where all its
+/// items are null, with a mask of the lists that have an item that is not.
+pub fn place_lists<'b, P: Places, C: Cells, L: Ledger>(
+    how: Extreme,
     lists: &LeafLists<'_, '_, '_, P, C>,
     arena: &'b Arena,
     steps: &mut Steps<L>,
-) -> Result<Lane<'b>, NoMemory>
+) -> Result<Marked<'b>, NoMemory>
     requires ready { AreNullable lists.now.bounds.now (P.at lists.now.leaves.now.places.now)
         (P.size lists.now.leaves.now.places.now) (C.lane lists.now.leaves.now.cells.now) }
-    ensures { IfOk result (λ r. r ≡ lane_of Kind.I8 (size_of lists.now.bounds.now.starts)
+    ensures places { IfOk result (λ r. r.numbers
+        ≡ lane_of Kind.I64 (size_of lists.now.bounds.now.starts)
+        (local_at how lists.now.bounds.now (leaf_number (P.at lists.now.leaves.now.places.now)
+        (C.lane lists.now.leaves.now.cells.now)))) }
+    ensures mask { IfOk result (λ r. r.mask ≡ lane_of Kind.I8 (size_of lists.now.bounds.now.starts)
         (present_at lists.now.bounds.now (leaf_number (P.at lists.now.leaves.now.places.now)
         (C.lane lists.now.leaves.now.cells.now)))) }
 {
-    let source = ListsPresent { lists };
-    made_lane(Kind::I8, lists.bounds.len(), &source, arena, steps)
+    let source = ListPlaces { how, lists };
+    marked_lanes(Kind::I64, lists.bounds.len(), &source, arena, steps)
 }
 
 /// The sum of each list.

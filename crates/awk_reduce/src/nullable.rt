@@ -24,7 +24,7 @@ use awk_layout::Node;
 use awk_list_functions::{Made, Spoil};
 use awk_nullable::{Cells, Leaves, Places, cells_of};
 use awk_nullable_lists::{
-    LeafLists, Nullable, extreme_lists, fold_lists, place_lists, present_lists, tally_lists,
+    LeafLists, Nullable, extreme_lists, fold_lists, place_lists, tally_lists,
 };
 use awk_numbers::{Extreme, Fold, Tally};
 use awk_types::NoMemory;
@@ -84,9 +84,8 @@ fn null_extremes<'a, P: Places, C: Cells, L: Ledger>(
         IfOk result (IsReduced (item_reducer how) (array_type l.content) (list_in l)
         (size_of l.starts)) }
 {
-    let mask = present_lists(lists, arena, steps)?;
-    let items = extreme_lists(how, lane, &mask, lists, arena, steps)?;
-    Ok(Made::Singles(masked(alloc, mask, items, steps)?))
+    let items = extreme_lists(how, lane, lists, arena, steps)?;
+    Ok(Made::Singles(masked(alloc, items.mask, items.numbers, steps)?))
 }
 
 /// The place of the least or of the greatest item of each list.
@@ -103,9 +102,8 @@ fn null_places<'a, P: Places, C: Cells, L: Ledger>(
         IfOk result (IsReduced (place_reducer how) (array_type l.content) (list_in l)
         (size_of l.starts)) }
 {
-    let mask = present_lists(lists, arena, steps)?;
-    let places = place_lists(how, &mask, lists, arena, steps)?;
-    Ok(Made::Singles(masked(alloc, mask, places, steps)?))
+    let places = place_lists(how, lists, arena, steps)?;
+    Ok(Made::Singles(masked(alloc, places.mask, places.numbers, steps)?))
 }
 
 /// What is made of such lists.

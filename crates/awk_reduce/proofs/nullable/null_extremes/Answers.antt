@@ -20,15 +20,6 @@ extreme_lists-requires-clause-ready g c =
     let lane = g.C.Cells.lane x.leaves.now.cells.now in
     leaves_nullable l f m lane c.requires.lists
 
-pub present_lists-requires : goal.present_lists-requires
-present_lists-requires g c =
-    let x = c.args.lists.now in
-    let l = x.bounds.now in
-    let f = g.P.Places.at x.leaves.now.places.now in
-    let m = g.P.Places.size x.leaves.now.places.now in
-    let lane = g.C.Cells.lane x.leaves.now.cells.now in
-    record { ready = leaves_nullable l f m lane c.requires.lists }
-
 pub masked-requires-clause-length : goal.masked-requires-clause-length
 masked-requires-clause-length g c =
     let x = c.args.lists.now in
@@ -38,8 +29,8 @@ masked-requires-clause-length g c =
     let lane = g.C.Cells.lane x.leaves.now.cells.now in
     omega (
       arith,
-      size-made c.in_ok-mask.mask I8 (size_of l.starts) (present_at l (leaf_number f lane))
-          c.in_ok-mask.ensures,
+      size-made c.in_ok-items.items.mask I8 (size_of l.starts) (present_at l (leaf_number f lane))
+          c.in_ok-items.ensures.mask,
       c.requires.lists.lists.fits,
     )
 
@@ -52,8 +43,8 @@ masked-requires-clause-size g c =
     let lane = g.C.Cells.lane x.leaves.now.cells.now in
     omega (
       arith,
-      size-made c.in_ok-items.items c.args.lane.now.kind (size_of l.starts)
-          (extreme_at c.args.how l (leaf_number f lane)) c.in_ok-items.ensures,
+      size-made c.in_ok-items.items.numbers c.args.lane.now.kind (size_of l.starts)
+          (extreme_at c.args.how l (leaf_number f lane)) c.in_ok-items.ensures.items,
       c.requires.lists.lists.fits,
     )
 
@@ -65,11 +56,11 @@ masked-requires-clause-valid g c =
     let m = g.P.Places.size x.leaves.now.places.now in
     let lane = g.C.Cells.lane x.leaves.now.cells.now in
     let way = leaf_number f lane in
-    let n = size_of c.in_ok-items.items in
-    subst (λ j. IsByteMask j n) (sym c.in_ok-mask.ensures)
+    let n = size_of c.in_ok-items.items.numbers in
+    subst (λ j. IsByteMask j n) (sym c.in_ok-items.ensures.mask)
     (mask_valid (size_of l.starts) n (present_at l way)
-    (size-made c.in_ok-items.items c.args.lane.now.kind (size_of l.starts)
-    (extreme_at c.args.how l way) c.in_ok-items.ensures))
+    (size-made c.in_ok-items.items.numbers c.args.lane.now.kind (size_of l.starts)
+    (extreme_at c.args.how l way) c.in_ok-items.ensures.items))
 
 pub returns : goal.returns
 returns g c =
@@ -80,11 +71,11 @@ returns g c =
     let lane = g.C.Cells.lane x.leaves.now.cells.now in
     let way = leaf_number f lane in
     let items =
-    c.in_ok-items.ensures
+    c.in_ok-items.ensures.items
     ∙ ap (λ (d : Column). lane_of d.kind (size_of l.starts) (extreme_at c.args.how l way))
     c.requires.lane in
     extremes_made l (size_of l.starts) (numbers_at l way)
     (leaves_numbered l f m lane c.requires.lists) c.args.how lane.kind
-    (extreme_at c.args.how l way) c.in_ok-masked.field-0 c.in_ok-mask.mask c.in_ok-items.items
+    (extreme_at c.args.how l way) c.in_ok-masked.field-0 c.in_ok-items.items.mask c.in_ok-items.items.numbers
     c.requires.lists.leaves.kind (item_there l f m lane c.requires.lists c.args.how)
-    items c.in_ok-mask.ensures c.in_ok-masked.ensures
+    items c.in_ok-items.ensures.mask c.in_ok-masked.ensures

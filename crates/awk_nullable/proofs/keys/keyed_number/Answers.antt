@@ -3,7 +3,7 @@ use Rattle.std.specs.Prelude.{FitsSigned, Some}
 use Rattle.std.specs.Int.{w64, w128, cast_signed as to_z, cast_unsigned as of_z}
 use Rattle.std.proofs.lemmas.Int.{ints, to_z-of_z}
 use Rattle.awk_lanes.specs.Places.{at}
-use Rattle.awk_nullable.proofs.keys.extreme_number.Goals as goal
+use Rattle.awk_nullable.proofs.keys.keyed_number.Goals as goal
 
 pub returns-in-Some : goal.returns-in-Some
 returns-in-Some g c =
